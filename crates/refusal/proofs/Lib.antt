@@ -1,0 +1,2 @@
+-- That refusals' numbers differ.
+pub mod Differ

@@ -1,0 +1,3 @@
+-- What each refusal returns and says.
+pub mod Numbers
+pub mod Sentences

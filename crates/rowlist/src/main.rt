@@ -1,0 +1,38 @@
+// Judges the box on standard input. So far it reads the header alone, and says so.
+ghost use Prim.Native.Nat.{_≤_};
+ghost use lib.ListN.{length};
+ghost use Rattle.std.specs.Vec.{made};
+use rwpk::judge_header;
+use std::io;
+use std::io::Read;
+
+// No box is longer than this, so what comes after it is not read.
+const LONGEST: usize = 65536;
+
+// Fills the buffer from the start as far as the input goes, and answers how far.
+fn fill<R: Read>(input: &mut R, buffer: &mut [u8]) -> io::Result<usize>
+    ensures { λ r. ⌜ made r (λ n. n ≤ length (now (buffer .exit))) ⌝ }
+{
+    let mut n = 0;
+    while n < buffer.len() {
+        let more = input.read(&mut buffer[n..])?;
+        if more == 0 {
+            break;
+        }
+        n += more;
+    }
+    Ok(n)
+}
+
+fn main(rt: LibcRuntime) -> io::Result<()> {
+    let mut buffer = [0u8; LONGEST];
+    let n = fill(&mut rt.stdin(), &mut buffer)?;
+    match judge_header(&buffer[0..n]) {
+        Ok(()) => println!(rt, "the header is sound; rows are not read yet"),
+        Err(fault) => {
+            let number = fault.refusal.number();
+            let place = fault.place;
+            println!(rt, "refused {number} at {place}")
+        }
+    }
+}

@@ -1,0 +1,2 @@
+-- Lemmas for the readers.
+pub mod Reading

@@ -1,0 +1,3 @@
+-- How a box is read.
+pub mod Fields
+pub mod Header
