@@ -11,9 +11,8 @@ use Rattle.std.proofs.shelf.Lists.{at-drop-more, at-drop-all}
 use Rattle.std.proofs.shelf.Tests.{and-parts, and-from, or-parts, or-left, or-right, leb-true, ltb-true, ltb-false, le-leb, lt-ltb, le-ltb, cond-true, cond-false, cond-both, cases-bool, cases-lt, both-ways, not-false, not-from-true}
 use Rattle.geometry.specs.declared.bounds.Bounds.{Bounds}
 use Rattle.geometry.specs.Boxes.{lies, has, covers}
-use Rattle.geometry.specs.FirstFree.{first-left}
+use Rattle.geometry.specs.FirstFree.{first-left, clear}
 use Rattle.geometry.specs.Jumps.{past, next}
-use Rattle.geometry.specs.Least.{Is-least}
 use Rattle.geometry.proofs.Leasts as leasts
 
 pub lies-in : (lo hi x : ℕ) → lies lo hi x ≡ true → (lo ≤ x) × (x < hi)
@@ -117,21 +116,19 @@ next-jump (o ∷ os) H t t′ l h a b = go (next-jump os H t t′ l) (cases-bool
         or-right (has o t′ l) (covers os t′ l)
         (ih (in-tail (has o t l) (covers os t l) e h) a (omega (arith, next-tail o os H t)))
 
-left-least : (os : List Bounds) (W t : ℕ) → Is-least W (λ l. not (covers os t l)) (first-left os W t)
-left-least os W t = leasts.is-least W (λ l. not (covers os t l))
-
 -- at a top without a free spot every spot is taken
-pub shut : (os : List Bounds) (W t l : ℕ) → ltb (first-left os W t) W ≡ false → l < W → covers os t l ≡ true
-shut os W t l e lt = not-false (covers os t l) (left-least os W t .first l (omega (arith, ltb-false (first-left os W t) W e)))
+shut : (os : List Bounds) (W t l : ℕ) → ltb (first-left (clear os) W t) W ≡ false → l < W → covers os t l ≡ true
+shut os W t l e lt =
+    not-false (covers os t l) (leasts.is-least W (clear os t) .first l (omega (arith, ltb-false (first-left (clear os) W t) W e)))
 
 -- so the tops that the jump passes have none either
-pub shut-below : (os : List Bounds) (H W t : ℕ) → ltb (first-left os W t) W ≡ false →
-    (t′ : ℕ) → t ≤ t′ → t′ < next os H t → ltb (first-left os W t′) W ≡ false
+pub shut-below : (os : List Bounds) (H W t : ℕ) → ltb (first-left (clear os) W t) W ≡ false →
+    (t′ : ℕ) → t ≤ t′ → t′ < next os H t → ltb (first-left (clear os) W t′) W ≡ false
 shut-below os H W t e t′ a b =
-    le-ltb (first-left os W t′) W
+    le-ltb (first-left (clear os) W t′) W
     (omega (
       arith,
-      leasts.none W (λ l. not (covers os t′ l)) W (omega arith)
+      leasts.none W (clear os t′) W (omega arith)
           (λ l lt. not-from-true (covers os t′ l) (next-jump os H t t′ l (shut os W t l e lt) a b)),
     ))
 

@@ -1,5 +1,5 @@
 -- `least` is the least number that passes, and how a loop that counts up shows it.
-use mathlib.Core.Path.{_≡_, sym}
+use mathlib.Core.Path.{_≡_, _∙_}
 use mathlib.Core.Logic.{_⊎_, inl, inr}
 use mathlib.Core.Bool.{Bool, true, false}
 use Prim.Native.Nat.{ℕ, zero, suc, _<_, _≤_, suc-le-suc, zero-le}
@@ -46,3 +46,14 @@ none n p k le all =
     one n p n (least n p)
     (record { bounded = omega arith; passes = λ lt. absurd (omega arith); first = λ j lt. all j (omega arith) })
     (is-least n p)
+
+-- two tests that agree below the bound have one least number
+pub same : (n : ℕ) (p q : ℕ → Bool) → ((k : ℕ) → k < n → p k ≡ q k) → least n p ≡ least n q
+same n p q agree =
+    let s : Is-least n q (least n q) = is-least n q in
+    one n p (least n p) (least n q) (is-least n p)
+    (record {
+      bounded = s .bounded;
+      passes = λ lt. agree (least n q) lt ∙ s .passes lt;
+      first = λ k lt. agree k (omega (arith, s .bounded)) ∙ s .first k lt;
+    })

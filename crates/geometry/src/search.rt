@@ -1,6 +1,6 @@
 // The first free spot among boxes, found by jumps from box to box and never by trying spot after spot.
 ghost use mathlib.Core.Path.{_≡_};
-ghost use Rattle.geometry.specs.FirstFree.{first-left, first-top, first-free};
+ghost use Rattle.geometry.specs.FirstFree.{first-left, first-top, clear, first-free};
 ghost use Rattle.geometry.specs.Jumps.{past, next};
 use crate::bounds::Bounds;
 use crate::place::Place;
@@ -30,7 +30,7 @@ fn past_one(boxes: &[Bounds], spot: Spot) -> u32
 
 // The leftmost free spot at this top, or `lefts` where there is none.
 fn leftmost_free(boxes: &[Bounds], lefts: u32, top: u32) -> u32
-    ensures { λ r. ⌜ r ≡ first-left (now (boxes .entry)) lefts top ⌝ }
+    ensures { λ r. ⌜ r ≡ first-left (clear (now (boxes .entry))) lefts top ⌝ }
 {
     let mut left = 0;
     while left < lefts {
@@ -58,7 +58,7 @@ fn next_top(boxes: &[Bounds], tops: u32, top: u32) -> u32
 
 // The highest top with a free spot, or `tops` where there is none.
 fn highest_free(boxes: &[Bounds], tops: u32, lefts: u32) -> u32
-    ensures { λ r. ⌜ r ≡ first-top (now (boxes .entry)) tops lefts ⌝ }
+    ensures { λ r. ⌜ r ≡ first-top (clear (now (boxes .entry))) tops lefts ⌝ }
 {
     let mut top = 0;
     while top < tops {

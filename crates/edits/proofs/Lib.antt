@@ -1,0 +1,2 @@
+-- The proofs behind lists of edits.
+pub mod Running

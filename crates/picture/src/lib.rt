@@ -1,0 +1,32 @@
+// Picture stores: what a store means, two bottoms over a lent run, two layers over any store, and a copy between stores.
+mod copying;
+mod laws;
+mod mark;
+mod rows;
+mod run;
+mod store;
+mod tiles;
+mod turned;
+mod window;
+
+pub use copying::copy;
+pub use laws::layer_laws;
+pub use laws::run_laws;
+pub use mark::Mark;
+pub use mark::MarkDebug;
+pub use mark::MarkEq;
+pub use mark::MarkPartialEq;
+pub use rows::Rows;
+pub use rows::RowsStore;
+pub use store::Store;
+pub use store::sides_of;
+pub use tiles::Tiles;
+pub use tiles::TilesStore;
+pub use turned::Turned;
+pub use turned::TurnedStore;
+pub use window::Frame;
+pub use window::FrameDebug;
+pub use window::FrameEq;
+pub use window::FramePartialEq;
+pub use window::Window;
+pub use window::WindowStore;
