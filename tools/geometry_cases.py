@@ -62,6 +62,11 @@ def positions():
         yield f"position {code}: " + " ".join(items)
 
 
+def film_columns():
+    """Counted by hand in docs/RULES.md: a body 2 wide, a rectangle 3 wide, columns 0, 1, 2 of the rectangle."""
+    return ["film columns under code 0: 0 1 1", "film columns under code 1: 1 0 0"]
+
+
 def first_free(tops, lefts, boxes):
     for t in range(tops):
         for l in range(lefts):
@@ -101,7 +106,7 @@ def main(folder):
         for tops, lefts, boxes in cases:
             f.write(" ".join(map(str, [tops, lefts] + [n for b in boxes for n in b])) + "\n")
     with open(f"{folder}/stdout", "w") as f:
-        for lines in turns(), centres(), positions():
+        for lines in turns(), centres(), positions(), film_columns():
             f.writelines(line + "\n" for line in lines)
         f.writelines(first_free(*case) + "\n" for case in cases)
         f.write("largest: " + largest() + "\n")

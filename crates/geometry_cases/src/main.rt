@@ -6,6 +6,7 @@ use spots::print_largest;
 use spots::print_spots;
 use std::error::AnyError;
 use tables::print_centres;
+use tables::print_film_columns;
 use tables::print_positions;
 use tables::print_turns;
 
@@ -13,6 +14,7 @@ fn run(rt: &LibcRuntime) -> Result<(), AnyError> {
     print_turns(rt)?;
     print_centres(rt)?;
     print_positions(rt)?;
+    print_film_columns(rt)?;
     print_spots(rt)?;
     print_largest(rt)
 }

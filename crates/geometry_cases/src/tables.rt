@@ -98,3 +98,23 @@ pub(crate) fn print_positions(rt: &LibcRuntime) -> Result<(), AnyError> {
     }
     Ok(())
 }
+
+// The worked film's columns: a body 2 wide under a rectangle 3 wide, so each column is a centre turned back.
+pub(crate) fn print_film_columns(rt: &LibcRuntime) -> Result<(), AnyError> {
+    let body = Sides {
+        width: 2,
+        height: 1,
+    };
+    for code in 0..2 {
+        let turn = granted(Turn::from_code(code))?;
+        print!(rt, "film columns under code {code}:")?;
+        for u in 0..3 {
+            let x = granted(centre(2, 3, u))?;
+            let place = granted(turn.backwards(body, Place { x, y: 0 }))?;
+            let column = place.x;
+            print!(rt, " {column}")?;
+        }
+        println!(rt, "")?;
+    }
+    Ok(())
+}

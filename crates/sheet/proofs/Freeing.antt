@@ -10,7 +10,6 @@ use Rattle.std.specs.declared.option.Option.{Option}
 use Rattle.std.specs.declared.option.Option.the-variants.{Some, None}
 use Rattle.std.specs.declared.result.Result.{Result}
 use Rattle.std.specs.declared.result.Result.the-variants.{Ok, Err}
-use Rattle.std.specs.Options.{Cases as BySome}
 use Rattle.std.proofs.shelf.Elements.{all-weaker}
 use Rattle.std.proofs.shelf.Tests.{and-parts, false≢true}
 use Rattle.std.proofs.shelf.Ways.{tells}
@@ -28,7 +27,7 @@ use Rattle.sheet.specs.declared.row.GuardBands.{GuardBands}
 use Rattle.sheet.specs.declared.row.PackedSides.{PackedSides}
 use Rattle.sheet.specs.declared.row.Row.{Row}
 use Rattle.sheet.specs.declared.row.SheetSides.{SheetSides}
-use Rattle.sheet.specs.Blocked.{walls, forbidden, against, blocked}
+use Rattle.sheet.specs.Blocked.{walls, forbidden, against, blocked, Small-spot, Search-finds}
 use Rattle.sheet.specs.Claims.{any, all, no-reach, reaches, widened, claim, fits, claim-inside, overlap, meets, meets-any}
 use Rattle.sheet.specs.Rules.{Content, empty-picture, empty-row, verdict, room-checks, drafted, free, found}
 use Rattle.sheet.specs.Sound.{sound, sound-rows}
@@ -141,7 +140,7 @@ solid-rows : (s : SheetSides) (rows : List Row) → sound-rows s rows ≡ true �
 solid-rows s rows h = all-weaker _ _ (λ r ok. faultless s r ok .sides) rows (each-sound s rows h)
 
 -- what the search over the blocked boxes of a sound sheet answers
-pub search-finds : (c : Content) (d : Draft) (boxes : List Bounds) → sound c ≡ true →
+search-finds : (c : Content) (d : Draft) (boxes : List Bounds) → sound c ≡ true →
     boxes ≡ blocked (c .sides .packed) (c .rows) d →
     first-free boxes (c .sides .packed .height) (c .sides .packed .width) ≡ found c d
 search-finds c d boxes h e =
@@ -168,10 +167,13 @@ found-room c d s e =
     passes true true f g h = absurd (false≢true h)
     passes false y f g h = absurd (false≢true h)
 
--- in a packed picture of 16 bits a spot has 16 bits
-pub found-small : (c : Content) (d : Draft) (r : Option Spot) → r ≡ found c d →
-    c .sides .packed .height < 65536 → c .sides .packed .width < 65536 →
-    BySome r (Unit {0}) (λ s. (s .top < 65536) × (s .left < 65536))
+found-small : (c : Content) (d : Draft) (r : Option Spot) → found c d ≡ r →
+    c .sides .packed .height < 65536 → c .sides .packed .width < 65536 → Small-spot r
 found-small c d None e high near = tt
 found-small c d (Some s) e high near =
-    let f = found-free c d s (sym e) in (omega (arith, f .high), omega (arith, f .near))
+    let f = found-free c d s e in (omega (arith, f .high), omega (arith, f .near))
+
+pub finds : (c : Content) (d : Draft) (boxes : List Bounds) → sound c ≡ true → boxes ≡ blocked (c .sides .packed) (c .rows) d →
+    Search-finds c d boxes
+finds c d boxes h e =
+    record { value = search-finds c d boxes h e; small = found-small c d (found c d) refl }

@@ -1,10 +1,9 @@
 // The edits of a sheet. Each decides by the rules alone, and a refused one leaves the sheet as it was.
 ghost use mathlib.Core.Path.{_≡_};
 ghost use mathlib.Core.List.{[], _∷_, _++_};
-ghost use Prim.Native.Nat.{_<_};
-ghost use Rattle.std.specs.Options.{Cases as BySome};
 ghost use Rattle.std.specs.Vec.{refused};
 ghost use Rattle.std.specs.declared.result.Result.the-variants.{Ok};
+ghost use Rattle.sheet.specs.Blocked.{blocked, Search-finds, Small-spot};
 ghost use Rattle.sheet.specs.Contents.{content};
 ghost use Rattle.sheet.specs.Rules.{new-sheet, with-rows, verdict, shape-checks, room-checks, open-answer, open-next, lay-answer, lay-next, lift-answer, lift-next, place-answer, place-next, drafted, found};
 use super::Sheet;
@@ -25,6 +24,7 @@ use crate::spots::NO_BOX;
 use crate::spots::block;
 use crate::table::Table;
 use geometry::Body;
+use geometry::Bounds;
 use geometry::ProjectedRectangle;
 use geometry::Sides;
 use geometry::Spot;
@@ -148,15 +148,23 @@ impl Sheet {
         Ok(())
     }
 
+    // Does nothing. Whoever calls it knows what a search that avoids all these boxes answers.
+    fn search_finds(&self, draft: &Draft, boxes: &[Bounds])
+        requires { ⌜ now boxes ≡ blocked (content (now self) .sides .packed) (content (now self) .rows) (now draft) ⌝ }
+        ensures { λ _. ⌜ Search-finds (content (now (self .entry))) (now (draft .entry)) (now (boxes .entry)) ⌝ }
+    {}
+
     // The highest free spot for the draft, and the leftmost of those.
     fn find_spot(&self, draft: &Draft) -> Option<Spot>
         ensures value { λ r. ⌜ r ≡ found (content (now (self .entry))) (now (draft .entry)) ⌝ }
-        ensures small { λ r. ⌜ BySome r (Unit {0}) (λ s. (s .top < 65536) × (s .left < 65536)) ⌝ }
+        ensures small { λ r. ⌜ Small-spot r ⌝ }
     {
         let packed = self.table.sides.packed;
         let mut boxes = [NO_BOX; MOST];
         let n = block(&mut boxes, packed, self.rows(), draft);
-        first_free(&boxes[0..n], packed.height as u32, packed.width as u32)
+        let taken = &boxes[0..n];
+        self.search_finds(draft, taken);
+        first_free(taken, packed.height as u32, packed.width as u32)
     }
 
     // Lays the row at the highest free spot and the leftmost of those, and answers the body's top and left.

@@ -1,7 +1,10 @@
-use mathlib.Core.Path.{_≡_, refl}
-use Prim.Native.Nat.{_+_, _<_}
+use mathlib.Core.Path.{_≡_, refl, ap, _∙_}
+use Prim.Native.Nat.{_+_, _-_, _<_}
 use native.Mathlib.Omega.{arith}
-use lib.ListN.{length}
+use lib.ListN.{length, take}
+use Rattle.std.specs.Holes.{removed}
+use Rattle.sheet.specs.Sound.{sound-rows}
+use Rattle.sheet.proofs.Rows.{sound-removed}
 use Rattle.sheet.proofs.Moved.{gap-none, gap-more, gap-rest, gap-all}
 use Rattle.sheet.proofs.gap.close_gap.Needs as need
 
@@ -16,4 +19,8 @@ loop-k-again c =
     )
 
 pub returns : need.returns
-returns c = gap-all _ _ _ (c .loop-k .k) _ (omega arith) (c .loop-k .inv .0)
+returns c =
+    let n = c .args .n in
+    let rows : take (n - 1) (c .loop-k .rows) ≡ removed (take n (c .args .rows .now)) (c .args .i) =
+    gap-all _ _ _ (c .loop-k .k) _ (omega arith) (c .loop-k .inv .0) in
+    record { rows = rows; sound = λ s h. ap (sound-rows s) rows ∙ sound-removed s (take n (c .args .rows .now)) (c .args .i) h }
