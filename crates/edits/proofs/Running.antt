@@ -1,6 +1,6 @@
 -- Runs of edits, one step on and at their end.
-use mathlib.Core.Path.{_≡_, refl, sym, ap, subst, _∙_}
-use mathlib.Core.Bool.{Bool, true, false, not, cond, _&&_}
+use mathlib.Core.Path.{_≡_, refl, sym, ap, _∙_}
+use mathlib.Core.Bool.{true, not}
 use mathlib.Core.List.{List, [], _∷_, _++_, append-nil, append-assoc}
 use Prim.Native.Nat.{ℕ, zero, suc, _+_, _≤_, _<_}
 use native.Mathlib.Omega.{arith}
@@ -15,12 +15,8 @@ use Rattle.std.proofs.shelf.Lists.{at-drop-more, at-drop-all}
 use Rattle.std.proofs.shelf.Tests.{and-parts, false≢true, not-from-false, and-from}
 use Rattle.refusal.specs.declared.Refusal.{Refusal}
 use Rattle.geometry.specs.declared.search.Spot.{Spot}
-use Rattle.sheet.specs.declared.row.Draft.{Draft}
-use Rattle.sheet.specs.declared.row.Row.{Row}
-use Rattle.sheet.specs.declared.row.SheetSides.{SheetSides}
-use Rattle.sheet.specs.Rules.{Content, new-sheet, verdict, check, after, with-rows, empty-picture, shape-checks, room-checks, open-answer, open-next, lay-answer, lay-next, place-answer, place-next, lift-answer, lift-next, drafted, found, spotted, and-then}
+use Rattle.sheet.specs.Rules.{Content, new-sheet, verdict, check, after, empty-picture, shape-checks, room-checks, open-answer, lay-answer, place-answer, lift-answer, drafted, found, spotted, and-then}
 use Rattle.sheet.specs.Sound.{sound, sound-rows}
-use Rattle.sheet.specs.Words.{Claimed-once}
 use Rattle.sheet.proofs.Apart.{claimed-once}
 use Rattle.sheet.proofs.Freeing.{found-room}
 use Rattle.sheet.proofs.Laid.{passed, verdict-first, verdict-rest, push-sound, lift-sound}

@@ -1,16 +1,15 @@
 -- The laws of the positions.
 use mathlib.Core.Path.{_≡_, refl, ap}
-use mathlib.Core.Bool.{Bool, true, false}
-use Prim.Native.Nat.{ℕ, _+_, _-_, _*_, _/_, _<_}
+use mathlib.Core.Bool.{true}
+use Prim.Native.Nat.{ℕ, _+_, _-_, _*_, _<_}
 use native.Mathlib.Omega.{arith}
 use Rattle.geometry.specs.declared.place.Place.{Place}
 use Rattle.geometry.specs.declared.place.ProjectedRectangle.{ProjectedRectangle}
 use Rattle.geometry.specs.declared.place.Sides.{Sides}
 use Rattle.geometry.specs.declared.turn.Turn.{Turn}
 use Rattle.geometry.specs.Places.{inside, at, by}
-use Rattle.geometry.specs.Positions.{position, coordinate}
+use Rattle.geometry.specs.Positions.{coordinate}
 use Rattle.geometry.specs.Standard.{Ratio, Formula, Standard, Whole, Position-laws}
-use Rattle.geometry.specs.TurnLaws.{There}
 use Rattle.geometry.specs.Turns.{turn-of, field, forwards}
 use Rattle.geometry.proofs.Centres as centres
 use Rattle.geometry.proofs.Insides.{Within, within}

@@ -1,13 +1,13 @@
 -- The laws of the turns, each by one argument over the three motions.
 use mathlib.Core.Path.{_≡_, refl, ap₂}
 use mathlib.Core.Bool.{Bool, true, false}
-use Prim.Native.Nat.{ℕ, zero, suc, _+_, _-_, _<_}
+use Prim.Native.Nat.{ℕ, zero, suc, _<_}
 use native.Mathlib.Omega.{arith}
 use Rattle.geometry.specs.declared.place.Place.{Place}
 use Rattle.geometry.specs.declared.place.Sides.{Sides}
 use Rattle.geometry.specs.declared.turn.Turn.{Turn}
 use Rattle.geometry.specs.Places.{inside, at, by}
-use Rattle.geometry.specs.Turns.{turn, turn-of, code-of, mirror, field, forwards, backwards}
+use Rattle.geometry.specs.Turns.{turn, turn-of, code-of, mirror, field, forwards}
 use Rattle.geometry.specs.TurnLaws.{Line, Table, There, Back, Turn-laws}
 use Rattle.geometry.proofs.Insides.{Within, within, inside-from}
 

@@ -6,7 +6,6 @@ use Rattle.geometry.specs.declared.place.Place.{Place}
 use Rattle.geometry.specs.declared.place.ProjectedRectangle.{ProjectedRectangle}
 use Rattle.geometry.specs.declared.place.Sides.{Sides}
 use Rattle.geometry.specs.declared.position.Fraction.{Fraction}
-use Rattle.geometry.specs.declared.position.Position.{Position}
 use Rattle.geometry.specs.declared.turn.Turn.{Turn}
 use Rattle.geometry.specs.Centre.{centre}
 use Rattle.geometry.specs.Places.{inside, at, by}

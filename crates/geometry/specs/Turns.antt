@@ -1,8 +1,7 @@
 -- The eight turns: mirrored left to right, flipped upside down, then rows and columns exchanged.
-use mathlib.Core.Path.{_≡_}
 use mathlib.Core.Bool.{Bool, true, false, cond}
 use mathlib.Core.List.{List, [], _∷_}
-use Prim.Native.Nat.{ℕ, _+_, _-_, _<_}
+use Prim.Native.Nat.{ℕ, _+_, _-_}
 use lib.Dec.{ltb}
 use lib.ListN.{getD}
 use Rattle.std.specs.declared.result.Result.{Result}

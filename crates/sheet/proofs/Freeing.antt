@@ -2,9 +2,8 @@
 use mathlib.Core.Path.{_≡_, refl, sym, ap, ap₂, subst, _∙_}
 use mathlib.Core.Bool.{Bool, true, false, not, cond, _&&_, _||_}
 use mathlib.Core.List.{List, [], _∷_, _++_, map}
-use Prim.Native.Nat.{ℕ, _+_, _-_, _<_, _≤_}
+use Prim.Native.Nat.{ℕ, _<_}
 use native.Mathlib.Omega.{arith}
-use lib.Dec.{eqb, ltb, leb}
 use Rattle.std.specs.shelf.Lists.{All, joined}
 use Rattle.std.specs.declared.option.Option.{Option}
 use Rattle.std.specs.declared.option.Option.the-variants.{Some, None}
@@ -14,7 +13,6 @@ use Rattle.std.proofs.shelf.Elements.{all-weaker}
 use Rattle.std.proofs.shelf.Tests.{and-parts, false≢true}
 use Rattle.std.proofs.shelf.Ways.{tells}
 use Rattle.geometry.specs.declared.bounds.Bounds.{Bounds}
-use Rattle.geometry.specs.declared.place.Body.{Body}
 use Rattle.geometry.specs.Boxes.{has, covers}
 use Rattle.refusal.specs.declared.Refusal.{Refusal}
 use Rattle.refusal.specs.declared.Refusal.the-variants.{ClaimLeaves, ClaimMeets}
@@ -28,7 +26,7 @@ use Rattle.sheet.specs.declared.row.PackedSides.{PackedSides}
 use Rattle.sheet.specs.declared.row.Row.{Row}
 use Rattle.sheet.specs.declared.row.SheetSides.{SheetSides}
 use Rattle.sheet.specs.Blocked.{walls, forbidden, against, blocked, Small-spot, Search-finds}
-use Rattle.sheet.specs.Claims.{any, all, no-reach, reaches, widened, claim, fits, claim-inside, overlap, meets, meets-any}
+use Rattle.sheet.specs.Claims.{any, all, reaches, widened, claim, fits, claim-inside, overlap, meets, meets-any}
 use Rattle.sheet.specs.Rules.{Content, empty-picture, empty-row, verdict, room-checks, drafted, free, found}
 use Rattle.sheet.specs.Sound.{sound, sound-rows}
 use Rattle.sheet.proofs.Rows.{faultless, each-sound}

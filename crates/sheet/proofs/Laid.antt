@@ -1,6 +1,6 @@
 -- What a granted call tells of its checks, and what it leaves.
 use mathlib.Core.Path.{_≡_, refl, sym, ap, _∙_}
-use mathlib.Core.Bool.{Bool, true, false, not, cond, _&&_}
+use mathlib.Core.Bool.{Bool, true, false, not, cond}
 use mathlib.Core.List.{List, [], _∷_, _++_}
 use Prim.Native.Nat.{ℕ, _+_, _≤_, _<_}
 use native.Mathlib.Omega.{arith}
@@ -15,7 +15,7 @@ use Rattle.std.proofs.shelf.Tests.{and-parts, and-from, leb-false, cond-false, 
 use Rattle.refusal.specs.declared.Refusal.{Refusal}
 use Rattle.sheet.specs.declared.row.Row.{Row}
 use Rattle.sheet.specs.declared.table.Table.{Table}
-use Rattle.sheet.specs.Claims.{claim, claim-inside, meets-any}
+use Rattle.sheet.specs.Claims.{claim-inside}
 use Rattle.sheet.specs.Held.{held}
 use Rattle.sheet.specs.Rules.{Content, Check, verdict, shape-checks, room-checks, with-rows, empty-picture}
 use Rattle.sheet.specs.Sound.{sound, sound-rows, sound-row}

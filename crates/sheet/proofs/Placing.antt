@@ -1,26 +1,26 @@
 -- What place answers is the first free spot, in words.
-use mathlib.Core.Path.{_≡_, refl, sym, ap, subst, _∙_}
+use mathlib.Core.Path.{_≡_, refl, subst}
 use mathlib.Core.Logic.{_⊎_, inl, inr}
-use mathlib.Core.Bool.{Bool, true, false, not, _&&_, _||_}
+use mathlib.Core.Bool.{true, false, not}
 use mathlib.Core.List.{List, [], _∷_}
-use Prim.Native.Nat.{ℕ, zero, suc, _+_, _<_, _≤_}
+use Prim.Native.Nat.{ℕ, zero, suc}
 use native.Mathlib.Omega.{arith}
 use Rattle.std.specs.shelf.Maps.{nth}
 use Rattle.std.specs.declared.option.Option.{Option}
 use Rattle.std.specs.declared.option.Option.the-variants.{Some, None}
 use Rattle.std.specs.declared.result.Result.{Result}
-use Rattle.std.specs.declared.result.Result.the-variants.{Ok, Err}
+use Rattle.std.specs.declared.result.Result.the-variants.{Ok}
 use Rattle.std.proofs.shelf.Tests.{and-parts, and-from, or-cases, both-ways, cases-bool, not-true, not-from-false}
 use Rattle.geometry.specs.declared.bounds.Bounds.{Bounds}
 use Rattle.geometry.specs.declared.search.Spot.{Spot}
-use Rattle.geometry.specs.FirstFree.{Free, First, Later}
+use Rattle.geometry.specs.FirstFree.{Free, First}
 use Rattle.geometry.proofs.Searching.{is-first}
 use Rattle.sheet.specs.declared.row.Draft.{Draft}
 use Rattle.sheet.specs.declared.row.Row.{Row}
 use Rattle.sheet.specs.Claims.{claim, claim-inside, meets, meets-any}
 use Rattle.sheet.specs.Rules.{Content, empty-picture, empty-row, verdict, shape-checks, drafted, free, found, spotted, and-then, place-answer}
 use Rattle.sheet.specs.Sound.{sound, sound-rows}
-use Rattle.sheet.specs.Words.{Meet, Free-spot, Placed-first, Claim-laws}
+use Rattle.sheet.specs.Words.{Free-spot, Placed-first, Claim-laws}
 use Rattle.sheet.proofs.Apart.{meets-none-at, row-sound, Body-fits, body-fits}
 use Rattle.sheet.proofs.Laid.{passed}
 use Rattle.sheet.proofs.Meeting.{shared-meets, tested}

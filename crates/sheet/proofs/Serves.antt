@@ -1,6 +1,6 @@
 -- The laws of serving.
 use mathlib.Core.Path.{_≡_, sym, ap, ap₂, _∙_}
-use mathlib.Core.Bool.{Bool, true, false, cond, _&&_}
+use mathlib.Core.Bool.{Bool, true, false, cond}
 use mathlib.Core.List.{List}
 use Prim.Native.Nat.{ℕ, _+_, _-_, _<_, _≤_}
 use native.Mathlib.Omega.{arith}
@@ -23,7 +23,6 @@ use Rattle.geometry.specs.Boxes.{lies}
 use Rattle.geometry.specs.Centre.{centre, centred}
 use Rattle.geometry.specs.Places.{inside, at, sides-of}
 use Rattle.geometry.specs.Positions.{located}
-use Rattle.geometry.specs.TurnLaws.{There, Back}
 use Rattle.geometry.specs.Turns.{turn, turn-of, from-code, field, forwards, backwards, unturned}
 use Rattle.geometry.proofs.Centres as centres
 use Rattle.geometry.proofs.Insides.{Within, within, inside-from}

@@ -1,9 +1,9 @@
 -- The content of a sheet, and what each call answers and leaves.
-use mathlib.Core.Bool.{Bool, true, false, not, cond, _&&_, _||_}
+use mathlib.Core.Bool.{Bool, false, not, cond, _&&_, _||_}
 use mathlib.Core.List.{List, [], _∷_, _++_}
 use Prim.Native.Nat.{ℕ, _+_}
 use lib.Dec.{eqb, ltb, leb}
-use lib.ListN.{length, take}
+use lib.ListN.{length}
 use Rattle.std.specs.Holes.{removed}
 use Rattle.std.specs.declared.option.Option.{Option}
 use Rattle.std.specs.declared.option.Option.the-variants.{Some, None}
@@ -14,12 +14,11 @@ use Rattle.refusal.specs.declared.Refusal.the-variants.{EmptySide, GuardBands a
 use Rattle.geometry.specs.declared.place.ProjectedRectangle.{ProjectedRectangle}
 use Rattle.geometry.specs.declared.place.Sides.{Sides}
 use Rattle.geometry.specs.declared.search.Spot.{Spot}
-use Rattle.geometry.specs.FirstFree.{spot, first-spot}
+use Rattle.geometry.specs.FirstFree.{first-spot}
 use Rattle.geometry.specs.Places.{by}
 use Rattle.sheet.specs.declared.row.Draft.{Draft}
 use Rattle.sheet.specs.declared.row.FourSides.{FourSides}
 use Rattle.sheet.specs.declared.row.GuardBands.{GuardBands}
-use Rattle.sheet.specs.declared.row.PackedSides.{PackedSides}
 use Rattle.sheet.specs.declared.row.Row.{Row}
 use Rattle.sheet.specs.declared.row.SheetSides.{SheetSides}
 use Rattle.sheet.specs.Claims.{claim, claim-inside, meets-any}
