@@ -1,8 +1,9 @@
-// Judges the box on standard input. So far it reads the header alone, and says so.
+// Loads the box on standard input. So far it says only whether it is granted, and why not.
 ghost use Prim.Native.Nat.{_≤_};
 ghost use lib.ListN.{length};
 ghost use Rattle.std.specs.Vec.{made};
-use rwpk::judge_header;
+use rwpk::load;
+use sheet::Sheet;
 use std::io;
 use std::io::Read;
 
@@ -27,8 +28,9 @@ fn fill<R: Read>(input: &mut R, buffer: &mut [u8]) -> io::Result<usize>
 fn main(rt: LibcRuntime) -> io::Result<()> {
     let mut buffer = [0u8; LONGEST];
     let n = fill(&mut rt.stdin(), &mut buffer)?;
-    match judge_header(&buffer[0..n]) {
-        Ok(()) => println!(rt, "the header is sound; rows are not read yet"),
+    let mut sheet = Sheet::new();
+    match load(&mut sheet, &buffer[0..n]) {
+        Ok(()) => println!(rt, "granted; rows are not listed yet"),
         Err(fault) => {
             let number = fault.refusal.number();
             let place = fault.place;

@@ -9,23 +9,38 @@ use Rattle.std.proofs.shelf.Tests.{cond-false, le-ltb}
 use Rattle.std.specs.declared.result.Result.the-variants.{Ok}
 use Rattle.rwpk.specs.Fields.{word-of, field}
 
-field-ok : (n : ℕ) (input : List ℕ) (p : ℕ) → p + n ≤ length input → field n input p ≡ Ok (word-of (take n (drop p input)))
+pub field-ok : (n : ℕ) (input : List ℕ) (p : ℕ) → p + n ≤ length input → field n input p ≡ Ok (word-of (take n (drop p input)))
 field-ok n input p h = cond-false _ _ _ (le-ltb (length input) (p + n) h)
 
--- four named bytes at the front, as one number
+-- one, two and four named bytes at the front, as one number
 abbrev pub named4 : List ℕ → ℕ
 named4 xs = getD xs 0 0 * 16777216 + getD xs 1 0 * 65536 + getD xs 2 0 * 256 + getD xs 3 0
 
--- what a pattern leaves after them
-abbrev pub after4 : List ℕ → List ℕ
-after4 xs = take (length xs - 4) (drop 4 xs)
+pub word1 : (xs : List ℕ) → 1 ≤ length xs → word-of (take 1 xs) ≡ getD xs 0 0
+word1 [] h = omega arith
+word1 (a ∷ xs) h = omega arith
 
-word4 : (xs : List ℕ) → 4 ≤ length xs → word-of (take 4 xs) ≡ named4 xs
+pub word2 : (xs : List ℕ) → 2 ≤ length xs → word-of (take 2 xs) ≡ getD xs 0 0 * 256 + getD xs 1 0
+word2 [] h = omega arith
+word2 (a ∷ []) h = omega arith
+word2 (a ∷ b ∷ xs) h = omega arith
+
+pub word4 : (xs : List ℕ) → 4 ≤ length xs → word-of (take 4 xs) ≡ named4 xs
 word4 [] h = omega arith
 word4 (a ∷ []) h = omega arith
 word4 (a ∷ b ∷ []) h = omega arith
 word4 (a ∷ b ∷ c ∷ []) h = omega arith
 word4 (a ∷ b ∷ c ∷ d ∷ xs) h = omega arith
+
+-- a reader that takes apart what is left from p on
+pub read : {part : List ℕ} (n : ℕ) (input : List ℕ) (p x : ℕ) → part ≡ take (length input - p) (drop p input) →
+    length part + p ≡ length input → n ≤ length part → x ≡ word-of (take n part) → Ok x ≡ field n input p
+read n input p x is long h e =
+    ap Ok (e ∙ ap (λ ys. word-of (take n ys)) (is ∙ take-rest input p)) ∙ sym (field-ok n input p (omega arith))
+
+-- what a pattern leaves after four bytes
+abbrev pub after4 : List ℕ → List ℕ
+after4 xs = take (length xs - 4) (drop 4 xs)
 
 -- four bytes at the front of what is left from p on
 front4 : (input part : List ℕ) (p x : ℕ) → part ≡ drop p input → 4 ≤ length part → x ≡ named4 part → field 4 input p ≡ Ok x

@@ -18,3 +18,10 @@ impl Fault {
         Fault { refusal, place }
     }
 }
+
+// Why a box is not copied: it is not granted, or the buffer is too short.
+#[derive(Clone, Copy, Debug, PartialEq, Eq)]
+pub enum CopyFault {
+    Unread(Fault),
+    Unwritten(Refusal),
+}

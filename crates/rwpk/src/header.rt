@@ -8,7 +8,7 @@ use refusal::Refusal;
 const RWPK: u32 = 0x7277706b;
 
 // Reads and judges the header. Granted, the box has a payload after it.
-pub fn judge_header(input: &[u8]) -> Result<(), Fault>
+pub(crate) fn judge_header(input: &[u8]) -> Result<(), Fault>
     ensures { λ r. ⌜ r ≡ header (now (input .entry)) ⌝ }
 {
     let [s0, s1, s2, s3, after_size @ ..] = input else {

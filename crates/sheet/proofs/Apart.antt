@@ -6,9 +6,11 @@ use mathlib.Core.List.{List, [], _∷_, map}
 use Prim.Native.Nat.{ℕ, zero, suc, _+_, _<_, _≤_}
 use native.Mathlib.Omega.{arith}
 use lib.Dec.{leb}
+use lib.ListN.{length, getD}
 use Rattle.std.specs.shelf.Maps.{nth}
 use Rattle.std.specs.declared.option.Option.{Option}
 use Rattle.std.specs.declared.option.Option.the-variants.{Some, None}
+use Rattle.std.proofs.shelf.Maps.{nth-getD}
 use Rattle.std.proofs.shelf.Tests.{and-parts, or-parts, or-left, both-ways, leb-true, cases-order}
 use Rattle.geometry.specs.declared.bounds.Bounds.{Bounds}
 use Rattle.geometry.specs.declared.place.Body.{Body}
@@ -22,7 +24,7 @@ use Rattle.sheet.specs.Claims.{all, no-reach, reaches, widened, claim, fits, c
 use Rattle.sheet.specs.Sound.{sound-row, sound-rows}
 use Rattle.sheet.specs.Words.{Claims, In-body, Claimed-once, Bodies}
 use Rattle.sheet.proofs.Meeting.{In, in-from, has-from, shared-meets}
-use Rattle.sheet.proofs.Rows.{head-parts, faultless}
+use Rattle.sheet.proofs.Rows.{Free-of-faults, head-parts, faultless}
 
 none-some : {X : Type 0} (x : X) → None ≡ Some x → ⊥
 none-some x e = let z : _≡_ {A = ℕ} 0 1 = cc in omega arith
@@ -44,6 +46,11 @@ pub row-sound : (s : SheetSides) (rows : List Row) (n : ℕ) (r : Row) → sound
 row-sound s [] n r h e = absurd (none-some r e)
 row-sound s (x ∷ rows) zero r h e = ap (sound-row s) (sym (some-same x r e)) ∙ head-parts s x rows h .0
 row-sound s (x ∷ rows) (suc n) r h e = row-sound s rows n r (head-parts s x rows h .2) e
+
+-- so is the row at a place of it
+pub row-at : (s : SheetSides) (rows : List Row) (i : ℕ) (d : Row) → sound-rows s rows ≡ true → i < length rows →
+    Free-of-faults s (getD rows i d)
+row-at s rows i d h lt = faultless s (getD rows i d) (row-sound s rows i (getD rows i d) h (nth-getD rows i d lt))
 
 -- a sample that a row claims is claimed by no later one
 later-clear : (s : SheetSides) (rows : List Row) (m n y x : ℕ) (r r′ : Row) → sound-rows s rows ≡ true → m < n →

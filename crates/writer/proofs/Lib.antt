@@ -1,0 +1,2 @@
+-- The proofs behind the job.
+pub mod Running

@@ -1,0 +1,3 @@
+-- What a job answers and leaves.
+pub mod Runs
+pub mod Steps
