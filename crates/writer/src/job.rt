@@ -16,7 +16,7 @@ pub struct Job<'a> {
     pub(crate) done: usize,
     // the byte place of the next part
     pub(crate) place: usize,
-    // sealed
+    // sealed or abandoned
     pub(crate) spent: bool,
     ghost few: { done ≤ length (content (now sheet) .rows) + 1 },
     ghost placed: { place ≡ place-of (content (now sheet)) done },
@@ -40,11 +40,7 @@ impl Job<'_> {
     pub fn abandon(self)
         ensures { λ r. ⌜ r ≡ tt ⌝ }
     {
-        let Job {
-            sheet: _,
-            done: _,
-            place: _,
-            spent: _,
-        } = self;
+        let mut job = self;
+        job.spent = true;
     }
 }
