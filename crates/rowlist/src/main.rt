@@ -1,13 +1,12 @@
-// Loads the box on standard input. So far it says only whether it is granted, and why not.
+// Prints the listing of the box on standard input.
 ghost use Prim.Native.Nat.{_≤_};
 ghost use lib.ListN.{length};
 ghost use Rattle.std.specs.Vec.{made};
-use rwpk::load;
-use sheet::Sheet;
+use listing::list_box;
 use std::io;
 use std::io::Read;
 
-// No box is longer than this, so what comes after it is not read.
+// No box is longer than this, so what comes after it is not read. No listing is longer either.
 const LONGEST: usize = 65536;
 
 // Fills the buffer from the start as far as the input goes, and answers how far.
@@ -26,15 +25,11 @@ fn fill<R: Read>(input: &mut R, buffer: &mut [u8]) -> io::Result<usize>
 }
 
 fn main(rt: LibcRuntime) -> io::Result<()> {
-    let mut buffer = [0u8; LONGEST];
-    let n = fill(&mut rt.stdin(), &mut buffer)?;
-    let mut sheet = Sheet::new();
-    match load(&mut sheet, &buffer[0..n]) {
-        Ok(()) => println!(rt, "granted; rows are not listed yet"),
-        Err(fault) => {
-            let number = fault.refusal.number();
-            let place = fault.place;
-            println!(rt, "refused {number} at {place}")
-        }
+    let mut input = [0u8; LONGEST];
+    let n = fill(&mut rt.stdin(), &mut input)?;
+    let mut lines = [0u8; LONGEST];
+    if let Ok(len) = list_box(&input[0..n], &mut lines) {
+        rt.write_all(&lines[0..len])?;
     }
+    Ok(())
 }
