@@ -1,14 +1,12 @@
 -- Text that grows.
-use Prim.Native.Nat.{ℕ, zero, suc, _+_, _-_, _*_, _/_, _%_, _^_, _≤_, _<_}
-use mathlib.Core.Path.{_≡_, refl, sym, ap, subst, _∙_}
+use Prim.Native.Nat.{ℕ, suc, _+_, _/_, _%_, _^_, _≤_, _<_}
+use mathlib.Core.Path.{_≡_, sym, ap, _∙_}
 use mathlib.Core.List.{List, [], _∷_, _++_, append-assoc}
 use native.Mathlib.Omega.{arith}
-use native.Mathlib.Numerals.{add-one}
-use lib.ListN.{length, take, drop, getD, set, length-append, length-drop}
+use lib.ListN.{length, drop, getD, length-append, length-drop}
 use Rattle.std.specs.Written.{decimal}
-use Rattle.std.specs.shelf.Lists.{joined}
-use Rattle.std.proofs.shelf.Decimals.{decimal-digit, decimal-step, length-decimal-le}
-use Rattle.std.proofs.shelf.Lists.{append-nil, take-more-set, at-drop-more, at-drop-all, drop-more, drop-all, length-take-le}
+use Rattle.std.proofs.shelf.Decimals.{decimal-digit, decimal-step}
+use Rattle.std.proofs.shelf.Lists.{append-nil, at-drop-more, drop-more, length-take-le}
 use Rattle.listing.specs.declared.text.Text.{Text}
 use Rattle.listing.specs.Texts.{text-of}
 use Rattle.listing.specs.Lines.{items}

@@ -5,7 +5,7 @@ use mathlib.Core.List.{List, [], _∷_, _++_}
 use Prim.Native.Nat.{ℕ, suc, _+_, _≤_}
 use native.Mathlib.Omega.{arith}
 use lib.Dec.{ltb, eqb}
-use lib.ListN.{length, take, drop, length-append, length-take, length-drop}
+use lib.ListN.{length, length-append, length-take, length-drop}
 use Rattle.std.specs.Results.{isOk}
 use Rattle.std.proofs.shelf.Tests.{ltb-false, eqb-true, true≢false, cond-true, cond-false, eq-eqb, le-ltb}
 use Rattle.std.specs.declared.result.Result.{Result}
@@ -14,7 +14,7 @@ use Rattle.refusal.specs.declared.Refusal.{Refusal}
 use Rattle.refusal.specs.declared.Refusal.the-variants.{NoRows, AllWritten, PartDue, BufferShort}
 use Rattle.rwpk.specs.Bytes.{word-bytes, head-bytes, rows-bytes, box-of}
 use Rattle.rwpk.specs.Parts.{part-at, parts-before, place-of}
-use Rattle.rwpk.specs.Writing.{put-at, put-answer, part-answer, part-out}
+use Rattle.rwpk.specs.Writing.{put-at, part-answer, part-out}
 use Rattle.rwpk.proofs.Copied.{parts-next}
 use Rattle.rwpk.proofs.Parted.{all-parts, parts-end, rows-long}
 use Rattle.rwpk.proofs.Puts.{put-next}

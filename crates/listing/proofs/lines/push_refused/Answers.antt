@@ -1,4 +1,3 @@
-use native.Mathlib.Omega.{arith}
 use Rattle.listing.specs.Texts.{text-of}
 use Rattle.listing.proofs.Refused.{room-1, room-2, room-3, room-4, refused-parts}
 use Rattle.listing.proofs.lines.push_refused.Needs as need

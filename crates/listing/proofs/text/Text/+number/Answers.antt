@@ -2,8 +2,7 @@ use native.Mathlib.Omega.{arith}
 use Prim.Native.Nat.{_<_, _^_, _+_, _%_}
 use mathlib.Core.List.{[], _∷_, _++_}
 use mathlib.Core.Path.{ap, _∙_}
-use lib.ListN.{length, length-append}
-use Rattle.std.specs.Written.{decimal}
+use lib.ListN.{length}
 use Rattle.listing.specs.Texts.{text-of}
 use Rattle.listing.proofs.Texts.{last-digit, only-digit, front-length, digit-length, front-room}
 use Rattle.listing.proofs.text.Text.+number.Needs as need

@@ -1,4 +1,3 @@
-use native.Mathlib.Omega.{arith}
 use Rattle.std.proofs.shelf.Lists.{drop-all}
 use Rattle.listing.specs.Texts.{text-of}
 use Rattle.listing.proofs.Texts.{word-room, word-step, all-done}

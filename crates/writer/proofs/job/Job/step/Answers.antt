@@ -1,6 +1,4 @@
 use native.Mathlib.Omega.{arith}
-use mathlib.Core.Path.{ap}
-use Rattle.rwpk.specs.Parts.{part-at}
 use Rattle.rwpk.proofs.Copied.{place-next}
 use Rattle.sheet.specs.Contents.{content}
 use Rattle.writer.proofs.Running.{part-passed}
