@@ -16,4 +16,4 @@ Inv-loop-edit l =
     (left-by (content (l .sheet)) (drop (l .edit-index) (l .edits)) ≡ left-by new-sheet (l .edits))
     × (vec-items (l .answers) ++ answers (content (l .sheet)) (drop (l .edit-index) (l .edits)) ≡ answers new-sheet (l .edits))
     × (((k : ℕ) → sound (left-by (content (l .sheet)) (take k (drop (l .edit-index) (l .edits)))) ≡ true) →
-       (k : ℕ) → sound (left-by new-sheet (take k (l .edits))) ≡ true)
+    (k : ℕ) → sound (left-by new-sheet (take k (l .edits))) ≡ true)
