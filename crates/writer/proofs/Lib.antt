@@ -1,3 +1,2 @@
 -- The proofs behind the job.
-pub mod Fitting
 pub mod Running
