@@ -1,4 +1,6 @@
 // Lists, loads and writes back the boxes on standard input, whole and damaged, to be compared with what tools/box_cases.py wrote.
+#![tactic(auto)]
+
 mod damage;
 mod digits;
 mod jobs;

@@ -1,4 +1,6 @@
 // One task from beginning to end: last year's film of a hall is unpacked, and packed as this year's.
+#![tactic(auto)]
+
 mod hall;
 mod statement;
 mod stores;

@@ -1,4 +1,6 @@
 // Lists of edits: each call of a list decided from the sheet that the one before it left.
+#![tactic(auto)]
+
 mod edit;
 mod replay;
 

@@ -1,4 +1,6 @@
 // Places, turns, centres, positions and free spots: the arithmetic that everything above rests on.
+#![tactic(auto)]
+
 mod bounds;
 mod cells;
 mod laws;

@@ -1,4 +1,6 @@
 // Prints turns, centres, positions and free spots of small cases, to be compared with what tools/geometry_cases.py wrote.
+#![tactic(auto)]
+
 mod spots;
 mod tables;
 

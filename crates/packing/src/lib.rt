@@ -1,4 +1,6 @@
 // Moving samples between the projected and the packed picture of a sheet.
+#![tactic(auto)]
+
 mod carry;
 mod claim_map;
 mod course;

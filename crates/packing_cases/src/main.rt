@@ -1,4 +1,6 @@
 // Packs and unpacks small pictures in stores of every make, to be compared with what tools/packing_cases.py wrote.
+#![tactic(auto)]
+
 mod stores;
 
 use anyhow::anyhow;

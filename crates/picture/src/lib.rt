@@ -1,4 +1,6 @@
 // Picture stores: what a store means, two bottoms over a lent run, two layers over any store, and a copy between stores.
+#![tactic(auto)]
+
 mod copying;
 mod laws;
 mod line;

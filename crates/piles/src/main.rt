@@ -1,4 +1,6 @@
 // Piles of stores held by value: what they show, what puts and copies through them write, and the runs afterwards.
+#![tactic(auto)]
+
 mod piles;
 mod printing;
 

@@ -1,5 +1,7 @@
 // Why a call was refused: one enum for the whole library.
-ghost use Rattle.std.specs.Prelude.{◌≡◌, Some, Decides};
+#![tactic(auto)]
+
+ghost use Rattle.std.specs.Prelude.{◌≡◌, ◌==◌, ◌↔◌, IsTrue, Some};
 ghost use Rattle.refusal.specs.Numbers.{number, NumbersDiffer};
 ghost use Rattle.refusal.specs.Sentences.{sentence};
 ghost use Rattle.std.specs.Cmp.Rules.{comparing};
@@ -88,11 +90,14 @@ impl fmt::Display for Refusal {
 
 // Equal where the numbers are: derived code would tell a proof nothing at this many variants.
 impl PartialEq for Refusal {
-    ghost equals = { λ a b r. Decides r (a ≡ b) };
+    ghost eq = { λ a b. number a == number b };
 
     ghost laws = { Keys.partial_equiv_from_equiv (Prim.search (comparing, rules)) };
 
-    fn eq(&self, other: &Refusal) -> bool {
+    fn eq(&self, other: &Refusal) -> bool
+        ensures computed { result ≡ (number self.now == number other.now) }
+        ensures decides { IsTrue result ↔ (self.now ≡ other.now) }
+    {
         self.number() == other.number()
     }
 }

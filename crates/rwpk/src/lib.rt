@@ -1,4 +1,6 @@
 // The 'rwpk' box: reading it field by field, loading it onto a sheet, and writing its parts.
+#![tactic(auto)]
+
 mod bands;
 mod bytes;
 mod copying;

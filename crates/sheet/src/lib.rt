@@ -1,4 +1,6 @@
 // The sheet: a region table that keeps its rules, with its edits, positions and serving.
+#![tactic(auto)]
+
 mod checks;
 mod claims;
 mod gap;

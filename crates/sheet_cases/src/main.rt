@@ -1,4 +1,6 @@
 // Runs lists of edits, positions and serving from standard input, to be compared with what tools/sheet_cases.py wrote.
+#![tactic(auto)]
+
 mod lines;
 
 use geometry::{Body, ProjectedRectangle, Sides, Spot};

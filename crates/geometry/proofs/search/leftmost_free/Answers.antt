@@ -10,13 +10,13 @@ pub returns-then-end-left : goal.returns-then-end-left
 returns-then-end-left c =
     let boxes = c.args.boxes.now in
     leasts.found c.args.lefts (λ l. not (covers boxes c.args.top l)) c.loop-left.left c.loop-left-test.true
-    (not_from_false _ (past_same boxes c.args.top c.loop-left.left (sym c.past-one-end.ensures ∙ c.if-end-left.true)))
+    (not_from_false _ (past_same boxes c.args.top c.loop-left.left (sym c.past_one-end.ensures ∙ c.if-end-left.true)))
     (λ j lt. not_from_true _ (c.loop-left.invariant j lt))
 
 pub loop-left-smaller : goal.loop-left-smaller
 loop-left-smaller c =
     let up : c.loop-left.left < past c.args.boxes.now c.args.top c.loop-left.left =
-    past_up c.args.boxes.now c.args.top c.loop-left.left (λ e. c.if-end-left.false (c.past-one-end.ensures ∙ e)) in
+    past_up c.args.boxes.now c.args.top c.loop-left.left (λ e. c.if-end-left.false (c.past_one-end.ensures ∙ e)) in
     omega arith
 
 pub loop-left-preserved : goal.loop-left-preserved

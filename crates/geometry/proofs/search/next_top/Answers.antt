@@ -1,7 +1,7 @@
 use Rattle.std.proofs.Common.{sym, ◌∙◌, inl, inr, arith}
 use Rattle.geometry.proofs.Jumping.{nearest_none, nearest_more, nearest_all}
 use Rattle.geometry.proofs.search.next_top.Goals as goal
-use Rattle.geometry.proofs.search.next_top.Goals.{then-stands-at+then-b-end, else-stands-at, else-stands-at-via-then-stands-at+else-b-end, else-stands-at-via-else-stands-at}
+use Rattle.geometry.proofs.search.next_top.Goals.{then-stands_at+then-b-end, else-stands_at, else-stands_at-via-then-stands_at+else-b-end, else-stands-at-via-else-stands-at}
 
 pub loop-b-init : goal.loop-b-init
 loop-b-init c = nearest_none c.args.boxes.now c.args.tops c.args.top
@@ -11,9 +11,9 @@ loop-b-preserved c =
     nearest_more c.args.boxes.now c.args.tops c.args.top c.loop-b.b-index c.loop-b.end c.if-stands-at.end _
     c.loop-b-test.true c.loop-b.invariant
     (elim c.if-stands-at.branch [
-      | then-stands-at+then-b-end w ↦ inl (sym c.stands-at.ensures ∙ w.if-stands-at.true, omega (arith, w.end-is, w.if-b-end))
-      | else-stands-at w ↦ elim w.else-stands-at.branch [
-        | else-stands-at-via-then-stands-at+else-b-end w' ↦ inl (sym c.stands-at.ensures ∙ w'.if-stands-at.true, omega (arith, w.end-is, w'.if-b-end))
+      | then-stands_at+then-b-end w ↦ inl (sym c.stands-at.ensures ∙ w.if-stands-at.true, omega (arith, w.end-is, w.if-b-end))
+      | else-stands_at w ↦ elim w.else-stands-at.branch [
+        | else-stands_at-via-then-stands_at+else-b-end w' ↦ inl (sym c.stands-at.ensures ∙ w'.if-stands-at.true, omega (arith, w.end-is, w'.if-b-end))
         | else-stands-at-via-else-stands-at w' ↦ inr (sym c.stands-at.ensures ∙ w'.if-stands-at.false, w.end-is)
       ]
     ])
