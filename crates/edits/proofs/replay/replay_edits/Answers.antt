@@ -7,7 +7,7 @@ loop-edit-preserved c =
     let inside = c.loop-edit-test.true in
     let told = c.apply.ensures in (
       left_more _ _ _ _ _ inside told.after ∙ c.loop-edit.invariant.0,
-      answers_more _ _ _ _ _ inside told.after _ _ _ told.answer c.in-ok-push.ensures.items ∙ c.loop-edit.invariant.1,
+      answers_more _ _ _ _ _ inside told.after _ _ _ told.answer c.in_ok-push.ensures.items ∙ c.loop-edit.invariant.1,
       λ rest. c.loop-edit.invariant.2 (sound_more _ _ _ _ _ inside told.after c.loop-edit.sheet.sound rest),
     )
 

@@ -5,8 +5,8 @@ use Rattle.geometry.proofs.Leasts as leasts
 use Rattle.geometry.proofs.Jumping.{next_moves, shut_below}
 use Rattle.geometry.proofs.search.highest_free.Goals as goal
 
-pub returns-then-leftmost-free-lefts : goal.returns-then-leftmost-free-lefts
-returns-then-leftmost-free-lefts c =
+pub returns-then-leftmost_free-lefts : goal.returns-then-leftmost_free-lefts
+returns-then-leftmost_free-lefts c =
     leasts.found c.args.tops (λ t. ltb (first_left (clear c.args.boxes.now) c.args.lefts t) c.args.lefts) c.loop-top.top
     c.loop-top-test.true
     (lt-ltb (first_left (clear c.args.boxes.now) c.args.lefts c.loop-top.top) c.args.lefts (omega arith))

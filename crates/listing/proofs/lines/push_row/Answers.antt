@@ -16,8 +16,8 @@ numbers-requires c =
     part_room (text_of c.number.new.self) (items (plain_items r)) bands
     (rest_room (text_of c.args.text.now) (text_of c.number.new.self) (decimal c.args.i) (items (plain_items r) ++ bands) c.number.ensures c.requires)
 
-pub push-bands-requires : goal.push-bands-requires
-push-bands-requires c =
+pub push_bands-requires : goal.push_bands-requires
+push_bands-requires c =
     let r = c.args.row.now in
     let bands : List ℕ = items (band_items r.bands) ++ 10 ∷ [] in
     part_room (text_of c.numbers.new.self) (items (band_items r.bands)) (10 ∷ [])
@@ -28,7 +28,7 @@ pub push-requires : goal.push-requires
 push-requires c =
     let r = c.args.row.now in
     let bands : List ℕ = items (band_items r.bands) ++ 10 ∷ [] in
-    let h = rest_room (text_of c.numbers.new.self) (text_of c.push-bands.new.text) (items (band_items r.bands)) (10 ∷ []) c.push-bands.ensures
+    let h = rest_room (text_of c.numbers.new.self) (text_of c.push_bands.new.text) (items (band_items r.bands)) (10 ∷ []) c.push_bands.ensures
     (rest_room (text_of c.number.new.self) (text_of c.numbers.new.self) (items (plain_items r)) bands c.numbers.ensures
     (rest_room (text_of c.args.text.now) (text_of c.number.new.self) (decimal c.args.i) (items (plain_items r) ++ bands) c.number.ensures c.requires)) in
     omega arith
@@ -39,4 +39,4 @@ returns c =
     let bands : List ℕ = items (band_items r.bands) ++ 10 ∷ [] in
     two_parts (text_of c.args.text.now) (text_of c.number.new.self) _ (decimal c.args.i) (items (plain_items r) ++ bands) c.number.ensures
     (two_parts (text_of c.number.new.self) (text_of c.numbers.new.self) _ (items (plain_items r)) bands c.numbers.ensures
-    (two_parts (text_of c.numbers.new.self) (text_of c.push-bands.new.text) _ (items (band_items r.bands)) (10 ∷ []) c.push-bands.ensures c.push.ensures))
+    (two_parts (text_of c.numbers.new.self) (text_of c.push_bands.new.text) _ (items (band_items r.bands)) (10 ∷ []) c.push_bands.ensures c.push.ensures))

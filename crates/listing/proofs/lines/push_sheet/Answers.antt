@@ -17,12 +17,12 @@ push-requires c =
     let l = ap length c.numbers.ensures ∙ length-append (text_of c.word.new.self) (items (sheet_items s (length rows))) in
     omega arith
 
-pub push-rows-requires : goal.push-rows-requires
-push-rows-requires c =
+pub push_rows-requires : goal.push_rows-requires
+push_rows-requires c =
     rows_room c.args.sides.now c.args.rows.now (text_of c.args.text.now) (text_of c.word.new.self) c.word.ensures
     (text_of c.numbers.new.self) (text_of c.push.new.self) c.numbers.ensures c.push.ensures c.requires
 
 pub returns : goal.returns
 returns c =
     sheet_parts c.args.sides.now c.args.rows.now (text_of c.args.text.now) (text_of c.word.new.self) c.word.ensures
-    (text_of c.numbers.new.self) (text_of c.push.new.self) c.numbers.ensures c.push.ensures _ c.push-rows.ensures
+    (text_of c.numbers.new.self) (text_of c.push.new.self) c.numbers.ensures c.push.ensures _ c.push_rows.ensures

@@ -5,16 +5,16 @@ use Rattle.listing.specs.Texts.{text_of}
 use Rattle.listing.proofs.Loaded.{granted_room, granted_lines, refused_room, refused_lines}
 use Rattle.listing.proofs.list.lines_of.Goals as goal
 
-pub push-sheet-requires : goal.push-sheet-requires
-push-sheet-requires c =
+pub push_sheet-requires : goal.push_sheet-requires
+push_sheet-requires c =
     let small : Bytes c.args.input.now = λ i. omega (arith, c.type-inv.input i) in
     let told = c.in-Ok.ensures in
     granted_room c.args.input.now (content c.load.new.sheet) _ _ told.answer told.after
     c.sides.result c.rows.result.now c.sides.ensures c.rows.ensures
     (text_of c.new-text.result) c.new-text.ensures small
 
-pub push-refused-requires : goal.push-refused-requires
-push-refused-requires c =
+pub push_refused-requires : goal.push_refused-requires
+push_refused-requires c =
     let lt : c.in-Err.fault.place < 2 ^ 64 = omega arith in
     refused_room c.in-Err.fault (text_of c.new-text.result) c.new-text.ensures lt
 
@@ -23,9 +23,9 @@ returns-in-Ok c =
     let told = c.in-Ok.ensures in
     granted_lines c.args.input.now (content c.load.new.sheet) _ _ told.answer told.after
     c.sides.result c.rows.result.now c.sides.ensures c.rows.ensures
-    (text_of c.new-text.result) c.new-text.ensures _ c.push-sheet.ensures
+    (text_of c.new-text.result) c.new-text.ensures _ c.push_sheet.ensures
 
 pub returns-in-Err : goal.returns-in-Err
 returns-in-Err c =
     refused_lines c.args.input.now c.in-Err.fault c.in-Err.ensures.answer
-    (text_of c.new-text.result) _ c.new-text.ensures c.push-refused.ensures
+    (text_of c.new-text.result) _ c.new-text.ensures c.push_refused.ensures

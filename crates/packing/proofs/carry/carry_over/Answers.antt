@@ -23,11 +23,11 @@ loop-start-preserved g c =
     let long : length steps ≡ n = search rules in
     let whole : length (steps ++ drop (n - 0) table) ≡ 8192 =
     omega (arith, c.loop-start.invariant.3, length-append steps (drop (n - 0) table), length-drop (n - 0) table) in (
-      c.carry-strip.ensures.after
+      c.carry_strip.ensures.after
           ∙ ap (drawn (strip carry start (length steps) m) p) c.loop-start.invariant.0
           ∙ ap (λ a. drawn (strip carry start a m) p (drawn (strip carry 0 start m) p q)) long
           ∙ strip_more carry p q start n m,
-      g.Q.Store.keeps.chain _ _ _ c.loop-start.invariant.1 c.carry-strip.ensures.rest,
+      g.Q.Store.keeps.chain _ _ _ c.loop-start.invariant.1 c.carry_strip.ensures.rest,
       search rules,
       whole,
     )

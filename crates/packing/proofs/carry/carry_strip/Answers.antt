@@ -21,8 +21,8 @@ track-track-requires g c =
     let h : p.sides.height < 2 ^ 32 = sound.down in
     record { able = c.requires.fits.down; line = line; across = omega (arith, start.0); down = omega (arith, start.1) }
 
-pub put-line-requires : goal.put-line-requires
-put-line-requires g c =
+pub put_line-requires : goal.put_line-requires
+put_line-requires g c =
     let p = g.P.Store.shown c.args.from.now in
     let q = g.Q.Store.shown c.args.to.now in
     let j = c.loop-j.j in
@@ -53,10 +53,10 @@ loop-j-preserved g c =
     let steps = c.args.steps.now in
     let carry = c.args.carry in
     let held = picked p c.track-track.result steps in (
-      c.put-line.ensures.after
+      c.put_line.ensures.after
           ∙ ap (λ a. lined a (at (carry.to.x + start) (carry.to.y + j)) (length steps) held) c.loop-j.invariant.0
           ∙ line_more carry p q start (length steps) j held
           (λ i below. ap p.at
           (track_source carry c.track-track.result (get_or steps i 0) (start + i) j c.track-track.ensures (c.requires.steps i below))),
-      g.Q.Store.keeps.chain _ _ _ c.loop-j.invariant.1 c.put-line.ensures.rest,
+      g.Q.Store.keeps.chain _ _ _ c.loop-j.invariant.1 c.put_line.ensures.rest,
     )

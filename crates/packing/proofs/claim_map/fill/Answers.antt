@@ -14,10 +14,10 @@ pub loop-j-preserved : goal.loop-j-preserved
 loop-j-preserved g c =
     let area = c.args.area in
     let j = c.loop-j.j in (
-      c.fill-line.ensures.after
+      c.fill_line.ensures.after
           ∙ ap (λ a. filled a (line_of area (area.top + j)) c.args.mark) c.loop-j.invariant.0
           ∙ box_more c.args.mark (g.S.Store.shown c.args.map.now) area j,
-      g.S.Store.keeps.chain _ _ _ c.loop-j.invariant.1 c.fill-line.ensures.rest,
+      g.S.Store.keeps.chain _ _ _ c.loop-j.invariant.1 c.fill_line.ensures.rest,
     )
 
 pub returns : goal.returns

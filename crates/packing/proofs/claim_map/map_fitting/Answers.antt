@@ -12,15 +12,15 @@ use Rattle.packing.proofs.Filling.{box}
 use Rattle.packing.proofs.Marking.{map_is, map_words}
 use Rattle.packing.proofs.claim_map.map_fitting.Goals as goal
 
-pub mark-rows-requires : goal.mark-rows-requires
-mark-rows-requires g c = omega (arith, ap length c.rows.ensures, c.facts.ensures.few)
+pub mark_rows-requires : goal.mark_rows-requires
+mark_rows-requires g c = omega (arith, ap length c.rows.ensures, c.facts.ensures.few)
 
 pub returns : goal.returns
 returns g c =
     let sheet = content c.args.sheet.now in
     let p = g.S.Store.shown c.args.map.now in
-    let map : g.S.Store.shown c.mark-rows.new.map ≡ claim_map sheet =
-    c.mark-rows.ensures.after
+    let map : g.S.Store.shown c.mark_rows.new.map ≡ claim_map sheet =
+    c.mark_rows.ensures.after
     ∙ ap₂ (λ (l : List Row) (a : Picture Mark). marked 0 l a) c.rows.ensures
     (c.fill.ensures.after
     ∙ ap (λ (s : SheetSides). filled p (box 0 s.packed.height 0 s.packed.width) Nobody) c.sides.ensures)
@@ -28,5 +28,5 @@ returns g c =
     record {
       after = map;
       words = subst (Marked sheet) (sym map) (map_words sheet c.facts.ensures);
-      rest = g.S.Store.keeps.chain _ _ _ c.fill.ensures.rest c.mark-rows.ensures.rest;
+      rest = g.S.Store.keeps.chain _ _ _ c.fill.ensures.rest c.mark_rows.ensures.rest;
     }

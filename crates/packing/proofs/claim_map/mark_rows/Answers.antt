@@ -15,8 +15,8 @@ pub loop-n-preserved : goal.loop-n-preserved
 loop-n-preserved g c =
     let rows = c.args.rows.now in
     let n = c.loop-n.n in (
-      c.mark-row.ensures.after
+      c.mark_row.ensures.after
           ∙ ap (marked (n - 1) (get_or rows (n - 1) no_row ∷ [])) c.loop-n.invariant.0
           ∙ marked_front (g.S.Store.shown c.args.map.now) rows n no_row c.loop-n-test.true c.loop-n.auto.n,
-      g.S.Store.keeps.chain _ _ _ c.loop-n.invariant.1 c.mark-row.ensures.rest,
+      g.S.Store.keeps.chain _ _ _ c.loop-n.invariant.1 c.mark_row.ensures.rest,
     )

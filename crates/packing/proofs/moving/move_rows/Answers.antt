@@ -18,8 +18,8 @@ loop-n-init g c =
       g.Q.Store.keeps.same c.args.to.now,
     )
 
-pub row-carry-requires : goal.row-carry-requires
-row-carry-requires g c =
+pub row_carry-requires : goal.row_carry-requires
+row_carry-requires g c =
     let p = g.P.Store.shown c.args.from.now in
     let q = g.Q.Store.shown c.args.to.now in
     let h : c.loop-n.n - 1 < length c.args.rows.now = omega arith in
@@ -27,8 +27,8 @@ row-carry-requires g c =
     let shaped = lies_shaped c.args.way p.sides q.sides _ lies in
     record { turn = shaped.0; sided = shaped.1 }
 
-pub carry-over-requires : goal.carry-over-requires
-carry-over-requires g c =
+pub carry_over-requires : goal.carry_over-requires
+carry_over-requires g c =
     let p = g.P.Store.shown c.args.from.now in
     let q = g.Q.Store.shown c.args.to.now in
     let row = get_or c.args.rows.now (c.loop-n.n - 1) no_row in
@@ -50,6 +50,6 @@ loop-n-preserved g c =
       drawn_front (has_of way) (origin_of way) (g.P.Store.shown c.args.from.now) (g.Q.Store.shown c.args.to.now) rows c.loop-n.n _
           c.row_carry.result _ _ c.loop-n-test.true c.loop-n.auto.n
           (λ (p : Place). ap (λ (k : Carry). carried k p) is ∙ row_carried way row p)
-          c.carry-over.ensures.after c.loop-n.invariant.0,
-      g.Q.Store.keeps.chain _ _ _ c.loop-n.invariant.1 c.carry-over.ensures.rest,
+          c.carry_over.ensures.after c.loop-n.invariant.0,
+      g.Q.Store.keeps.chain _ _ _ c.loop-n.invariant.1 c.carry_over.ensures.rest,
     )

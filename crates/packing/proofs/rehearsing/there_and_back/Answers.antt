@@ -4,10 +4,10 @@ use Rattle.sheet.specs.Contents.{content}
 use Rattle.packing.proofs.Promised.{unmoved, moved, both, not_refused}
 use Rattle.packing.proofs.rehearsing.there_and_back.Goals as goal
 
-pub returns-in-err-pack : goal.returns-in-err-pack
-returns-in-err-pack g c =
-    let p = err_from_is_err_and c.from-residual.result c.from-residual.ensures.1 in
-    let told = c.in-err-pack.ensures in
+pub returns-in_err-pack : goal.returns-in_err-pack
+returns-in_err-pack g c =
+    let p = err_from_is_err_and c.from_residual.result c.from_residual.ensures.1 in
+    let told = c.in_err-pack.ensures in
     rw (p.1, p.2)
     (record {
       stores = unmoved (content c.args.sheet.now) _ _ _ _ _ _ told.picture;
@@ -17,9 +17,9 @@ returns-in-err-pack g c =
 
 pub returns : goal.returns
 returns g c =
-    let there = c.in-ok-pack.ensures in
+    let there = c.in_ok-pack.ensures in
     let back = c.unpack.ensures in
-    let projected = sym c.if-not-has-projected-sides.ensures in
+    let projected = sym c.if-not-has_projected_sides.ensures in
     let sheet = content c.args.sheet.now in
     record {
       stores = moved sheet _ _ _ _ _ c.unpack.result there.picture back.picture projected c.facts.ensures;

@@ -3,8 +3,8 @@ use Rattle.sheet.specs.Contents.{content}
 use Rattle.packing.proofs.Lying.{rows_lie}
 use Rattle.packing.proofs.unpacking.unpack_fitting.Goals as goal
 
-pub move-rows-requires : goal.move-rows-requires
-move-rows-requires g c =
+pub move_rows-requires : goal.move_rows-requires
+move_rows-requires g c =
     let fits = and_parts _ _ c.requires in
     rows_lie (content c.args.sheet.now) _ (g.Q.Store.shown c.args.to.now) (g.P.Store.shown c.args.from.now)
     c.rows.ensures c.facts.ensures fits.0 fits.1

@@ -12,9 +12,9 @@ loop-y-preserved g c =
     let q = g.Q.Store.shown c.args.to.now in
     let y = c.loop-y.y in
     let w = p.sides.width in (
-      c.copy-row.ensures.after ∙ ap (drawn (row_to y w) p) c.loop-y.invariant.0
+      c.copy_row.ensures.after ∙ ap (drawn (row_to y w) p) c.loop-y.invariant.0
           ∙ drawn_then (rows_to w y) (row_to y w) (rows_to w (y + 1)) p q (rows_more w y),
-      g.Q.Store.keeps.chain _ _ _ c.loop-y.invariant.1 c.copy-row.ensures.rest,
+      g.Q.Store.keeps.chain _ _ _ c.loop-y.invariant.1 c.copy_row.ensures.rest,
     )
 
 pub returns : goal.returns

@@ -8,13 +8,13 @@ use Rattle.picture.proofs.Pictures.{read_granted, some_of}
 use Rattle.picture.proofs.RowByRow.{row_more, sides_same}
 use Rattle.picture.proofs.copying.copy_row.Goals as goal
 
-pub returns-in-err-sample : goal.returns-in-err-sample
-returns-in-err-sample g c =
+pub returns-in_err-sample : goal.returns-in_err-sample
+returns-in_err-sample g c =
     let p = g.P.Store.shown c.args.from.now in
     let x : c.loop-x.x < p.sides.width = omega arith in
     let here : inside p.sides (at c.loop-x.x c.args.y) ≡ true = inside_from _ _ x c.requires.inside in
     absurd
-    (read_granted p (at c.loop-x.x c.args.y) _ _ (g.P.Store.sound c.args.from.now) here c.in-err-sample.ensures)
+    (read_granted p (at c.loop-x.x c.args.y) _ _ (g.P.Store.sound c.args.from.now) here c.in_err-sample.ensures)
 
 pub loop-x-preserved : goal.loop-x-preserved
 loop-x-preserved g c =
@@ -22,7 +22,7 @@ loop-x-preserved g c =
     let q = g.Q.Store.shown c.args.to.now in
     let x = c.loop-x.x in
     let y = c.args.y in
-    let v = c.in-ok-sample.sample in
+    let v = c.in_ok-sample.sample in
     let across : x < p.sides.width = omega arith in
     let here : inside q.sides (at x y) ≡ true =
     ap (λ s. inside s (at x y)) (sym (sides_same p q c.requires.same)) ∙ inside_from _ _ across c.requires.inside in
@@ -30,6 +30,6 @@ loop-x-preserved g c =
       c.put.ensures.after
           ∙ ap (λ a. painted a (at x y) v) inv
           ∙ drawn_more (row_to y x) (row_to y (x + 1)) p q (at x y) (at x y) v (subst Sound inv (g.Q.Store.sound c.loop-x.to)) here
-          (some_of _ v _ c.in-ok-sample.ensures) (row_more y x),
+          (some_of _ v _ c.in_ok-sample.ensures) (row_more y x),
       g.Q.Store.keeps.chain _ _ _ c.loop-x.invariant.1 c.put.ensures.rest,
     )

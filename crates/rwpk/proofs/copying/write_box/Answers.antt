@@ -4,18 +4,18 @@ use Rattle.sheet.specs.Rules.{Content}
 use Rattle.rwpk.proofs.Copied.{never, one_more, sealed}
 use Rattle.rwpk.proofs.copying.write_box.Goals as goal
 
-pub returns-in-err-place : goal.returns-in-err-place
-returns-in-err-place c =
+pub returns-in_err-place : goal.returns-in_err-place
+returns-in_err-place c =
     let m : Content = content c.args.sheet.now in
     let out : List ℕ = c.args.out.now in
     absurd (never m out c.loop-part.out c.loop-part.part c.loop-part.place (omega (arith, c.len-part-end.ensures)) c.requires
-    c.loop-part.invariant.0 c.loop-part.invariant.1 _ c.in-err-place.ensures.answer)
+    c.loop-part.invariant.0 c.loop-part.invariant.1 _ c.in_err-place.ensures.answer)
 
 pub loop-part-preserved : goal.loop-part-preserved
 loop-part-preserved c =
     let m : Content = content c.args.sheet.now in
     let out : List ℕ = c.args.out.now in
-    let told = c.in-ok-place.ensures in
+    let told = c.in_ok-place.ensures in
     one_more m out c.loop-part.out c.loop-part.part c.loop-part.place (omega (arith, c.len-part-end.ensures)) c.requires
     c.loop-part.invariant.0 c.loop-part.invariant.1 _ _ told.answer told.out c.loop-part.invariant.2
 

@@ -8,19 +8,19 @@ pub returns-then-kind-ne-RWPK : goal.returns-then-kind-ne-RWPK
 returns-then-kind-ne-RWPK c =
     let input : List ℕ = c.args.input.now in
     let long : 4 ≤ length input = omega (arith, ltb-false) in
-    let size = first input _ long c.from-be-bytes-size.ensures in
-    let kind = second input _ (omega (arith, ltb-false)) c.from-be-bytes-kind.ensures in
+    let size = first input _ long c.from_be_bytes-size.ensures in
+    let kind = second input _ (omega (arith, ltb-false)) c.from_be_bytes-kind.ensures in
     let left = after4_long input long in
     simp (size, kind) (grind (arith, nat_tests))
 
-pub returns-then-version-and-flags-ne0 : goal.returns-then-version-and-flags-ne0
-returns-then-version-and-flags-ne0 c =
+pub returns-then-version_and_flags-ne0 : goal.returns-then-version_and_flags-ne0
+returns-then-version_and_flags-ne0 c =
     let input : List ℕ = c.args.input.now in
     let long : 4 ≤ length input = omega (arith, ltb-false) in
     let longer : 4 ≤ length (after4 input) = omega (arith, ltb-false) in
-    let size = first input _ long c.from-be-bytes-size.ensures in
-    let kind = second input _ longer c.from-be-bytes-kind.ensures in
-    let version = third input _ (omega (arith, ltb-false)) c.from-be-bytes-version-and-flags.ensures in
+    let size = first input _ long c.from_be_bytes-size.ensures in
+    let kind = second input _ longer c.from_be_bytes-kind.ensures in
+    let version = third input _ (omega (arith, ltb-false)) c.from_be_bytes-version_and_flags.ensures in
     let left = after4_long input long in
     let left' = after4_long (after4 input) longer in
     simp (size, kind, version) (grind (arith, nat_tests))
@@ -31,9 +31,9 @@ returns c =
     let long : 4 ≤ length input = omega (arith, ltb-false) in
     let longer : 4 ≤ length (after4 input) = omega (arith, ltb-false) in
     let longest : 4 ≤ length (after4 (after4 input)) = omega (arith, ltb-false) in
-    let size = first input _ long c.from-be-bytes-size.ensures in
-    let kind = second input _ longer c.from-be-bytes-kind.ensures in
-    let version = third input _ longest c.from-be-bytes-version-and-flags.ensures in
+    let size = first input _ long c.from_be_bytes-size.ensures in
+    let kind = second input _ longer c.from_be_bytes-kind.ensures in
+    let version = third input _ longest c.from_be_bytes-version_and_flags.ensures in
     let left = after4_long input long in
     let left' = after4_long (after4 input) longer in
     let left'' = after4_long (after4 (after4 input)) longest in

@@ -14,40 +14,40 @@ loop-init c =
     let m : Content = content c.args.sheet.now in
     (none_yet m.sides c.args.count m.rows c.args.input.now 26 c.requires, refl, ap length c.requires, omega arith)
 
-pub row-at-requires : goal.row-at-requires
-row-at-requires c = omega (arith, c.loop.invariant.3)
+pub row_at-requires : goal.row_at-requires
+row_at-requires c = omega (arith, c.loop.invariant.3)
 
-pub lay-at-requires : goal.lay-at-requires
-lay-at-requires c =
+pub lay_at-requires : goal.lay_at-requires
+lay_at-requires c =
     let small : Bytes c.args.input.now = λ i. omega (arith, c.type-inv.input i) in
     record {
       few = omega (arith, c.loop.invariant.2);
-      faultless = (row_back c.args.input.now small c.loop.place c.in-ok-row.row c.in-ok-row.ensures).faultless;
+      faultless = (row_back c.args.input.now small c.loop.place c.in_ok-row.row c.in_ok-row.ensures).faultless;
     }
 
-pub returns-in-err-row : goal.returns-in-err-row
-returns-in-err-row c =
+pub returns-in_err-row : goal.returns-in_err-row
+returns-in_err-row c =
     let m : Content = content c.loop.sheet in
-    let p = err_from_is_err_and c.from-residual.result c.from-residual.ensures.1 in
+    let p = err_from_is_err_and c.from_residual.result c.from_residual.ensures.1 in
     record {
       rows =
           ap (λ r. rows_laid r m.rows) (p.1 ∙ ap Err p.2)
           ∙ unread m.sides c.args.count c.loop.counter m.rows c.args.input.now c.loop.place c.loop-test.true _
-          c.in-err-row.ensures
+          c.in_err-row.ensures
           ∙ c.loop.invariant.0;
       sides = c.loop.invariant.1;
     }
 
-pub returns-in-err-lay-at : goal.returns-in-err-lay-at
-returns-in-err-lay-at c =
+pub returns-in_err-lay_at : goal.returns-in_err-lay_at
+returns-in_err-lay_at c =
     let m : Content = content c.loop.sheet in
-    let p = err_from_is_err_and c.from-residual-in-err-lay-at.result c.from-residual-in-err-lay-at.ensures.1 in
-    let told = c.in-err-lay-at.ensures in
+    let p = err_from_is_err_and c.from_residual-in_err-lay_at.result c.from_residual-in_err-lay_at.ensures.1 in
+    let told = c.in_err-lay_at.ensures in
     record {
       rows =
-          ap (λ r. rows_laid r (content c.lay-at.new.sheet).rows) (p.1 ∙ ap Err p.2)
+          ap (λ r. rows_laid r (content c.lay_at.new.sheet).rows) (p.1 ∙ ap Err p.2)
           ∙ unlaid m.sides c.args.count c.loop.counter m.rows c.args.input.now c.loop.place c.loop-test.true
-          c.in-ok-row.row _ c.in-ok-row.ensures told.answer
+          c.in_ok-row.row _ c.in_ok-row.ensures told.answer
           ∙ c.loop.invariant.0;
       sides = ap (λ (k : Content). k.sides) told.after ∙ c.loop.invariant.1;
     }
@@ -57,14 +57,14 @@ loop-preserved c =
     let m : Content = content c.loop.sheet in
     let n : ℕ = c.args.count - (c.loop.counter + 1) in
     let input : List ℕ = c.args.input.now in
-    let row = c.in-ok-row.row in
-    let told = c.in-ok-lay-at.ensures in
-    let longer : length (content c.lay-at.new.sheet).rows ≡ length m.rows + 1 =
+    let row = c.in_ok-row.row in
+    let told = c.in_ok-lay_at.ensures in
+    let longer : length (content c.lay_at.new.sheet).rows ≡ length m.rows + 1 =
     ap (λ (k : Content). length k.rows) told.after ∙ length-append m.rows (row ∷ []) in (
-      ap (λ (k : Content). rows_from k.sides n k.rows input (c.loop.place + c.row-length-place.result)) told.after
-          ∙ ap (λ k. rows_from m.sides n (m.rows ++ row ∷ []) input (c.loop.place + k)) c.row-length-place.ensures
+      ap (λ (k : Content). rows_from k.sides n k.rows input (c.loop.place + c.row_length-place.result)) told.after
+          ∙ ap (λ k. rows_from m.sides n (m.rows ++ row ∷ []) input (c.loop.place + k)) c.row_length-place.ensures
           ∙ one_more m.sides c.args.count c.loop.counter m.rows input c.loop.place c.loop-test.true row _
-          c.in-ok-row.ensures told.answer
+          c.in_ok-row.ensures told.answer
           ∙ c.loop.invariant.0,
       ap (λ (k : Content). k.sides) told.after ∙ c.loop.invariant.1,
       omega (arith, longer, c.loop.invariant.2),

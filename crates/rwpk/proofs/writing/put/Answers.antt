@@ -5,4 +5,4 @@ use Rattle.rwpk.proofs.writing.put.Goals as goal
 pub returns : goal.returns
 returns c =
     put_mid c.args.place (c.args.place + length c.args.bytes.now - c.args.place) c.args.out.now c.args.bytes.now _
-    (omega arith) c.copy-from-slice.ensures.after
+    (omega arith) c.copy_from_slice.ensures.after

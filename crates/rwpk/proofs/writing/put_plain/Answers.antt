@@ -16,7 +16,7 @@ returns c =
     let turn : List ℕ = row.turn * 32 ∷ [] in
     let onto : List ℕ = body_bytes row.body in
     let s1 = c.put.ensures ∙ ap (λ b. put_at out p (b ∷ [])) c.flag_byte.ensures in
-    let s2 = put_next out p (p + 1) flag sides s1 c.put-2.ensures c.pair-bytes.ensures (omega arith) (omega arith) in
-    let s3 = put_next out p (p + 9) (flag ++ sides) corner s2 c.put-3.ensures c.pair-bytes-2.ensures (omega arith) (omega arith) in
+    let s2 = put_next out p (p + 1) flag sides s1 c.put-2.ensures c.pair_bytes.ensures (omega arith) (omega arith) in
+    let s3 = put_next out p (p + 9) (flag ++ sides) corner s2 c.put-3.ensures c.pair_bytes-2.ensures (omega arith) (omega arith) in
     let s4 = put_next out p (p + 17) ((flag ++ sides) ++ corner) turn s3 c.put-4.ensures refl (omega arith) (omega arith) in
-    put_next out p (p + 18) (((flag ++ sides) ++ corner) ++ turn) onto s4 c.put-5.ensures c.body-bytes.ensures (omega arith) (omega arith)
+    put_next out p (p + 18) (((flag ++ sides) ++ corner) ++ turn) onto s4 c.put-5.ensures c.body_bytes.ensures (omega arith) (omega arith)

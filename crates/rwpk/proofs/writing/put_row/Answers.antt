@@ -11,6 +11,6 @@ returns-in-Some c =
     let p : ℕ = c.args.place in
     let row = c.args.row.now in
     let size : row_length row ≡ 32 = ap length_with c.in-Some.is in
-    put_next out p (p + 26) (plain_bytes row) (bands_bytes c.in-Some.bands) c.put-plain.ensures c.put.ensures
+    put_next out p (p + 26) (plain_bytes row) (bands_bytes c.in-Some.bands) c.put_plain.ensures c.put.ensures
     c.bands_bytes.ensures (omega arith) (omega arith)
     ∙ ap (λ o. put_at out p (plain_bytes row ++ bytes_if o)) (sym c.in-Some.is)

@@ -8,8 +8,8 @@ use Rattle.rwpk.specs.Writing.{put_answer, part_out}
 use Rattle.rwpk.proofs.Parted.{part_row}
 use Rattle.rwpk.proofs.writing.write_part.Goals as goal
 
-pub write-row-requires : goal.write-row-requires
-write-row-requires c =
+pub write_row-requires : goal.write_row-requires
+write_row-requires c =
     let s = c.args.sheet.now in
     let m = content s in
     let rows = c.rows-rows.result.now in
@@ -27,8 +27,8 @@ returns-else-part-eq0 c =
     let is = part_row m rows c.args.part _ c.rows-rows.ensures c.if-part-eq0.false (omega arith) in
     record {
       answer =
-          c.write-row.ensures.answer
+          c.write_row.ensures.answer
           ∙ ap (put_answer c.args.out.now c.args.place) is
           ∙ sym (cond-false _ _ _ (le-ltb (length m.rows) c.args.part (omega (arith, ap length c.rows-rows.ensures))));
-      out = c.write-row.ensures.out ∙ ap (part_out c.write-row.result c.args.out.now c.args.place) is;
+      out = c.write_row.ensures.out ∙ ap (part_out c.write_row.result c.args.out.now c.args.place) is;
     }

@@ -5,14 +5,14 @@ use Rattle.sheet.proofs.claims.meets_some.Goals as goal
 
 pub returns-then-meet : goal.returns-then-meet
 returns-then-meet c =
-    anys.here (λ r. meets c.args.claim-there.now (claim r)) c.args.rows.now c.loop-row.row-index _ c.loop-row-test.true c.loop-row.invariant
-    (c.if-meet.ensures ∙ ap (meets c.args.claim-there.now) c.claim.ensures.value)
+    anys.here (λ r. meets c.args.claim_there.now (claim r)) c.args.rows.now c.loop-row.row-index _ c.loop-row-test.true c.loop-row.invariant
+    (c.if-meet.ensures ∙ ap (meets c.args.claim_there.now) c.claim.ensures.value)
 
 pub loop-row-preserved : goal.loop-row-preserved
 loop-row-preserved c =
-    anys.more (λ r. meets c.args.claim-there.now (claim r)) c.args.rows.now c.loop-row.row-index _ c.loop-row-test.true c.loop-row.invariant
-    (c.if-meet.ensures ∙ ap (meets c.args.claim-there.now) c.claim.ensures.value)
+    anys.more (λ r. meets c.args.claim_there.now (claim r)) c.args.rows.now c.loop-row.row-index _ c.loop-row-test.true c.loop-row.invariant
+    (c.if-meet.ensures ∙ ap (meets c.args.claim_there.now) c.claim.ensures.value)
 
 pub returns : goal.returns
 returns c =
-    anys.none (λ r. meets c.args.claim-there.now (claim r)) c.args.rows.now c.loop-row.row-index c.loop-row-test.false c.loop-row.invariant
+    anys.none (λ r. meets c.args.claim_there.now (claim r)) c.args.rows.now c.loop-row.row-index c.loop-row-test.false c.loop-row.invariant

@@ -8,13 +8,13 @@ use Rattle.sheet.proofs.served.locate.Goals as goal
 pub returns-then-number-rows : goal.returns-then-number-rows
 returns-then-number-rows c = position_none c.args.rows.now c.args.number c.args.place c.if-number-rows.true
 
-pub returns-in-err-turn : goal.returns-in-err-turn
-returns-in-err-turn c =
+pub returns-in_err-turn : goal.returns-in_err-turn
+returns-in_err-turn c =
     let f : Shaped c.args.sides (get_or c.args.rows.now c.args.number no_row) =
     All-get_or (Shaped c.args.sides) c.args.rows.now c.args.number no_row (omega arith) c.requires in
-    absurd (no_fault _ _ f.turn c.in-err-turn.ensures)
+    absurd (no_fault _ _ f.turn c.in_err-turn.ensures)
 
 pub returns : goal.returns
 returns c =
     c.of.ensures
-    ∙ position_some c.args.rows.now c.args.number c.args.place no_row c.in-ok-turn.turn (omega arith) c.in-ok-turn.ensures
+    ∙ position_some c.args.rows.now c.args.number c.args.place no_row c.in_ok-turn.turn (omega arith) c.in_ok-turn.ensures

@@ -10,10 +10,10 @@ pub returns : goal.returns
 returns c =
     let r = c.args.row.now in
     let p = c.args.place in
-    let t = c.in-ok-turn.turn in
+    let t = c.in_ok-turn.turn in
     let f : c.field-field.result ≡ field t (sides_of r.body) = c.field-field.ensures ∙ ap (field t) c.sides-body.ensures in
     c.backwards.ensures
-    ∙ ap (λ (b : Sides). unturned t b (at c.in-ok-x.x c.in-ok-y.y)) c.sides-body.ensures
-    ∙ served_steps r p t c.in-ok-x.x c.in-ok-y.y c.requires.sided c.requires.covered c.in-ok-turn.ensures
-    (c.in-ok-x.ensures ∙ ap (λ (z : Sides). centred z.width r.projected.width (p.x - r.projected.left)) f)
-    (c.in-ok-y.ensures ∙ ap (λ (z : Sides). centred z.height r.projected.height (p.y - r.projected.top)) f)
+    ∙ ap (λ (b : Sides). unturned t b (at c.in_ok-x.x c.in_ok-y.y)) c.sides-body.ensures
+    ∙ served_steps r p t c.in_ok-x.x c.in_ok-y.y c.requires.sided c.requires.covered c.in_ok-turn.ensures
+    (c.in_ok-x.ensures ∙ ap (λ (z : Sides). centred z.width r.projected.width (p.x - r.projected.left)) f)
+    (c.in_ok-y.ensures ∙ ap (λ (z : Sides). centred z.height r.projected.height (p.y - r.projected.top)) f)

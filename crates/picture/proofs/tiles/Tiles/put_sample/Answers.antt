@@ -6,14 +6,14 @@ use Rattle.picture.specs.Soundness.{laid_room, tiles_lawful}
 use Rattle.picture.proofs.Layouts.{laid_painted, laid_rest, tiles_reversible}
 use Rattle.picture.proofs.tiles.Tiles.put_sample.Goals as goal
 
-pub keep-at-requires : goal.keep-at-requires
-keep-at-requires g c =
+pub keep_at-requires : goal.keep_at-requires
+keep_at-requires g c =
     let s = c.args.self.now in
     let run = s.samples.now in
     let place = c.args.place in
     let h : inside (fitting tile_layout s.sides (length run)) place ≡ true =
-    ap (λ a. inside a place) (sym c.shown-sides.ensures) ∙ sym c.if-not-contain.ensures in
-    simp c.tile-spot-spot.ensures (laid_room tile_layout tiles_lawful s.sides (length run) place h)
+    ap (λ a. inside a place) (sym c.shown_sides.ensures) ∙ sym c.if-not-contain.ensures in
+    simp c.tile_spot-spot.ensures (laid_room tile_layout tiles_lawful s.sides (length run) place h)
 
 pub returns : goal.returns
 returns g c =
@@ -21,14 +21,14 @@ returns g c =
     let run = s.samples.now in
     let place = c.args.place in
     let h : inside (fitting tile_layout s.sides (length run)) place ≡ true =
-    ap (λ a. inside a place) (sym c.shown-sides.ensures) ∙ sym c.if-not-contain.ensures in
+    ap (λ a. inside a place) (sym c.shown_sides.ensures) ∙ sym c.if-not-contain.ensures in
     let v = c.args.sample in
     record {
       answer = sym (cond-true _ _ _ h);
-      after = simp (c.keep-at.ensures, c.tile-spot-spot.ensures)
+      after = simp (c.keep_at.ensures, c.tile_spot-spot.ensures)
           (laid_painted tile_layout tiles_lawful tiles_reversible s.sides run place v h);
       rest = (
-        simp (c.keep-at.ensures, c.tile-spot-spot.ensures)
+        simp (c.keep_at.ensures, c.tile_spot-spot.ensures)
             (laid_rest tile_layout tiles_lawful tiles_reversible s.sides run place v h),
         refl,
       );

@@ -13,12 +13,12 @@ loop-done-preserved g c =
     let place = c.args.place in
     let done = c.loop-done.done in
     let n = c.min-n.result in
-    let piece = c.put-piece.ensures in
+    let piece = c.put_piece.ensures in
     let inv = c.loop-done.invariant in (
       piece.after
           ∙ ap (λ a. lined a (at (place.x + done) place.y) n (λ i. held (done + i))) inv.0
           ∙ lined_then (tiles_shown s) place done n held,
-      tiles_keeps.chain s c.loop-done.self c.put-piece.new.self inv.1 piece.rest,
+      tiles_keeps.chain s c.loop-done.self c.put_piece.new.self inv.1 piece.rest,
       search rules,
     )
 

@@ -10,13 +10,13 @@ use Rattle.picture.proofs.Pictures.{painted_outside}
 use Rattle.picture.proofs.Layers.{through, refused, turn_backed}
 use Rattle.picture.proofs.turned.Turned.put_sample.Goals as goal
 
-pub returns-in-err-spot : goal.returns-in-err-spot
-returns-in-err-spot g c =
+pub returns-in_err-spot : goal.returns-in_err-spot
+returns-in_err-spot g c =
     let below = c.args.self.now.below in
     let p = g.S.Store.shown below in
     let f = c.args.self.now.turn in
     let place = c.args.place in
-    let none : Err c.in-err-spot.field-0.0 ≡ seen (turn_view f) p.sides place = c.in-err-spot.ensures in
+    let none : Err c.in_err-spot.field-0.0 ≡ seen (turn_view f) p.sides place = c.in_err-spot.ensures in
     let out = (refused (inside (field f p.sides) place) _ _ _ none).0 in
     record {
       answer = search rules;
@@ -31,8 +31,8 @@ returns g c =
     let p = g.S.Store.shown below in
     let f = c.args.self.now.turn in
     let place = c.args.place in
-    let spot = c.in-ok-spot.spot in
-    let found : Ok spot ≡ seen (turn_view f) p.sides place = c.in-ok-spot.ensures in
+    let spot = c.in_ok-spot.spot in
+    let found : Ok spot ≡ seen (turn_view f) p.sides place = c.in_ok-spot.ensures in
     let t = through (turn_view f) (turn_inner f) (turn_backed f) p (g.S.Store.sound below) place spot c.args.sample found in
     record {
       answer = c.put.ensures.answer ∙ t.answer;

@@ -12,8 +12,8 @@ returns g c =
     let p = g.S.Store.shown below in
     let f = c.args.self.now.frame in
     let place = c.args.place in
-    let spot = c.in-ok-spot.spot in
-    let found : Ok spot ≡ seen (window_view f) p.sides place = c.in-ok-spot.ensures in
+    let spot = c.in_ok-spot.spot in
+    let found : Ok spot ≡ seen (window_view f) p.sides place = c.in_ok-spot.ensures in
     let t = through (window_view f) (window_inner f) (window_backed f) p (g.S.Store.sound below) place spot c.args.sample found in
     record {
       answer = c.put.ensures.answer ∙ t.answer;

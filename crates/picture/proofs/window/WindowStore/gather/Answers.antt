@@ -10,7 +10,7 @@ use Rattle.picture.proofs.window.WindowStore.gather.Goals as goal
 pub moved-start-requires : goal.moved-start-requires
 moved-start-requires g c =
     let s = c.args.self.now in
-    let empty = c.if-is-empty.ensures in
+    let empty = c.if-is_empty.ensures in
     let some : 0 < length c.args.steps.now = grind (arith, nat_tests) in
     let first = get_or c.args.steps.now 0 0 in
     let fits = start_fits s.frame (g.S.Store.shown s.below) c.args.track first (g.S.Store.sound s.below)

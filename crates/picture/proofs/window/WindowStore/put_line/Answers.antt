@@ -14,8 +14,8 @@ moved-spot-requires g c =
     let h : p.sides.height < 2 ^ 32 = sound.down in
     record { across = omega (arith, c.requires.across); down = omega (arith, c.requires.down) }
 
-pub put-line-requires : goal.put-line-requires
-put-line-requires g c =
+pub put_line-requires : goal.put_line-requires
+put_line-requires g c =
     record {
       across = omega (arith, c.requires.across, ap (λ a. a.x) c.moved-spot.ensures);
       down = omega (arith, c.requires.down, ap (λ a. a.y) c.moved-spot.ensures);
@@ -30,13 +30,13 @@ returns g c =
     let place = c.args.place in
     let n = g.L.Line.long c.args.line.now in
     let held = g.L.Line.held c.args.line.now in
-    let below : g.S.Store.shown c.put-line.new.self ≡ lined p (at (f.left + place.x) (f.top + place.y)) n held =
-    c.put-line.ensures.after ∙ ap (λ a. lined p a n held) c.moved-spot.ensures in
+    let below : g.S.Store.shown c.put_line.new.self ≡ lined p (at (f.left + place.x) (f.top + place.y)) n held =
+    c.put_line.ensures.after ∙ ap (λ a. lined p a n held) c.moved-spot.ensures in
     record {
       after = ap (viewed (window_view f)) below ∙ window_lined f p place n held c.requires.across c.requires.down;
       rest = (
         refl,
-        c.put-line.ensures.rest,
+        c.put_line.ensures.rest,
         subst (KeptBelow (window_view f) p) (sym below) (window_line_rest f p place n held c.requires.across c.requires.down),
       );
     }

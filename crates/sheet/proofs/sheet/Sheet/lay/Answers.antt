@@ -11,27 +11,27 @@ use Rattle.sheet.proofs.sheet.Sheet.lay.Goals as goal
 kept : (m : Content) (r : Row) (f : Refusal) → Err f ≡ lay_answer m r → m ≡ lay_next m r
 kept m r f e = ap (λ a. after a (λ _. with_rows m (m.rows ++ r ∷ [])) m) e
 
-pub returns-in-err-judge-shape : goal.returns-in-err-judge-shape
-returns-in-err-judge-shape c =
-    let p = err_from_is_err_and c.from-residual.result c.from-residual.ensures.1 in
+pub returns-in_err-judge_shape : goal.returns-in_err-judge_shape
+returns-in_err-judge_shape c =
+    let p = err_from_is_err_and c.from_residual.result c.from_residual.ensures.1 in
     let m = held c.args.self.now.table in
-    let told : Err c.in-err-judge-shape.field-0.0 ≡ lay_answer m c.args.row =
-    verdict_stop (shape_checks m c.args.row) (room_checks m c.args.row) _ c.in-err-judge-shape.ensures in
+    let told : Err c.in_err-judge_shape.field-0.0 ≡ lay_answer m c.args.row =
+    verdict_stop (shape_checks m c.args.row) (room_checks m c.args.row) _ c.in_err-judge_shape.ensures in
     record {
       answer = p.1 ∙ ap Err p.2 ∙ told;
       after = kept m c.args.row _ told;
-      refused = refused_all c.from-residual.result _ (λ y. refl);
+      refused = refused_all c.from_residual.result _ (λ y. refl);
     }
 
-pub returns-in-err-judge-room : goal.returns-in-err-judge-room
-returns-in-err-judge-room c =
-    let p = err_from_is_err_and c.from-residual-in-err-judge-room.result c.from-residual-in-err-judge-room.ensures.1 in
+pub returns-in_err-judge_room : goal.returns-in_err-judge_room
+returns-in_err-judge_room c =
+    let p = err_from_is_err_and c.from_residual-in_err-judge_room.result c.from_residual-in_err-judge_room.ensures.1 in
     let m = held c.args.self.now.table in
-    let told : Err c.in-err-judge-room.field-0.0 ≡ lay_answer m c.args.row =
-    c.in-err-judge-room.ensures
-    ∙ verdict_then (shape_checks m c.args.row) (room_checks m c.args.row) tt c.in-ok-judge-shape.ensures in
+    let told : Err c.in_err-judge_room.field-0.0 ≡ lay_answer m c.args.row =
+    c.in_err-judge_room.ensures
+    ∙ verdict_then (shape_checks m c.args.row) (room_checks m c.args.row) tt c.in_ok-judge_shape.ensures in
     record {
       answer = p.1 ∙ ap Err p.2 ∙ told;
       after = kept m c.args.row _ told;
-      refused = refused_all c.from-residual-in-err-judge-room.result _ (λ y. refl);
+      refused = refused_all c.from_residual-in_err-judge_room.result _ (λ y. refl);
     }

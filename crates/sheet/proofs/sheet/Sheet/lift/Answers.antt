@@ -9,6 +9,6 @@ pub invariant-of-self : goal.invariant-of-self
 invariant-of-self c =
     let s = c.args.self.now in
     let ok = and_parts (not (empty_picture s.table.sides)) (sound_rows s.table.sides (held s.table).rows) s.sound in (
-      c.close-gap.auto.rows ∙ s.whole,
-      (omega arith, (and_from (not (empty_picture s.table.sides)) _ ok.0 (c.close-gap.ensures.sound s.table.sides ok.1), tt)),
+      c.close_gap.auto.rows ∙ s.whole,
+      (omega arith, (and_from (not (empty_picture s.table.sides)) _ ok.0 (c.close_gap.ensures.sound s.table.sides ok.1), tt)),
     )

@@ -4,11 +4,11 @@ use Rattle.sheet.specs.Rules.{verdict, shape_checks, room_checks}
 use Rattle.sheet.proofs.Freeing.{found_room}
 use Rattle.sheet.proofs.sheet.Sheet.place.Goals as goal
 
-pub overflow-cast-spot : goal.overflow-cast-spot
-overflow-cast-spot c = record { fits = omega (arith, c.in-Some.ensures.small.0) }
+pub overflow_cast-spot : goal.overflow_cast-spot
+overflow_cast-spot c = record { fits = omega (arith, c.in-Some.ensures.small.0) }
 
-pub overflow-cast-spot-in-Some : goal.overflow-cast-spot-in-Some
-overflow-cast-spot-in-Some c = record { fits = omega (arith, c.in-Some.ensures.small.1) }
+pub overflow_cast-spot-in-Some : goal.overflow_cast-spot-in-Some
+overflow_cast-spot-in-Some c = record { fits = omega (arith, c.in-Some.ensures.small.1) }
 
 -- the checks of the row's shape do not read where its body lies
 pub append-requires : goal.append-requires
@@ -16,9 +16,9 @@ append-requires c =
     let m = held c.args.self.now.table in
     record {
       shape =
-          c.in-ok-judge-shape.ensures ∙ ap (λ r. verdict (shape_checks m r)) c.at-spot.ensures
-          ∙ ap (λ r. verdict (shape_checks m r)) (sym c.at-spot-in-Some.ensures);
+          c.in_ok-judge_shape.ensures ∙ ap (λ r. verdict (shape_checks m r)) c.at_spot.ensures
+          ∙ ap (λ r. verdict (shape_checks m r)) (sym c.at_spot-in-Some.ensures);
       room =
           found_room m c.args.draft c.in-Some.spot (sym c.in-Some.ensures.value)
-          ∙ ap (λ r. verdict (room_checks m r)) (sym c.at-spot-in-Some.ensures);
+          ∙ ap (λ r. verdict (room_checks m r)) (sym c.at_spot-in-Some.ensures);
     }

@@ -11,7 +11,7 @@ pub returns : goal.returns
 returns c =
     let j = c.args.self.now in
     let s = j.sheet.now in
-    let sides = subst (λ x. SidesFit x) c.sides.ensures c.sides-fit.ensures in
-    let rows = subst (λ x. All RowFits x) c.rows.ensures c.rows-fit.ensures in
+    let sides = subst (λ x. SidesFit x) c.sides.ensures c.sides_fit.ensures in
+    let rows = subst (λ x. All RowFits x) c.rows.ensures c.rows_fit.ensures in
     let few = c.facts.ensures.few in
     sealing (content s) j.done j.place few j.placed (λ some. box_there (content s) (has_box s sides rows few some))

@@ -8,5 +8,5 @@ pub invariant-of-self : goal.invariant-of-self
 invariant-of-self c =
     let j = c.args.self.now in
     let m = content j.sheet.now in
-    let s = part_passed m j.done j.place c.in-ok-length.length c.args.out.now c.in-ok-length.ensures.answer in
+    let s = part_passed m j.done j.place c.in_ok-length.length c.args.out.now c.in_ok-length.ensures.answer in
     (omega (arith, s.due), (omega (arith, s.long, j.placed, place_next m j.done s.due), tt))

@@ -11,10 +11,10 @@ returns c =
     let end = c.sealing.ensures.end all in
     record {
       answer = end;
-      out = c.put-size.ensures;
+      out = c.put_size.ensures;
       sheet = refl;
       done = refl;
       spent = refl;
       run =
-          finished m j.done c.args.out.now _ _ (seal_granted m j.done j.place c.args.out.now all end c.requires.room) c.put-size.ensures c.sealing.ensures.back;
+          finished m j.done c.args.out.now _ _ (seal_granted m j.done j.place c.args.out.now all end c.requires.room) c.put_size.ensures c.sealing.ensures.back;
     }
