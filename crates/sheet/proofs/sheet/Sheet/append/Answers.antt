@@ -5,15 +5,13 @@ use Rattle.sheet.proofs.sheet.Sheet.append.Goals as goal
 pub bounds-self-n : goal.bounds-self-n
 bounds-self-n c = let s = c.args.self.now in not_full s.table c.args.row s.whole s.few c.requires.shape
 
-pub invariant-of-self : goal.invariant-of-self
-invariant-of-self c =
-    let s = c.args.self.now in (
-      length-set s.table.rows s.table.len c.args.row ∙ s.whole,
-      (
-        omega (arith, not_full s.table c.args.row s.whole s.few c.requires.shape),
-        (laid_sound s.table c.args.row s.whole s.few c.requires.shape c.requires.room s.sound, tt),
-      ),
-    )
+pub invariant_of-self : goal.invariant_of-self
+invariant_of-self c =
+    let s = c.args.self.now in record {
+      whole = length-set s.table.rows s.table.len c.args.row ∙ s.whole;
+      few = omega (arith, not_full s.table c.args.row s.whole s.few c.requires.shape);
+      sound = laid_sound s.table c.args.row s.whole s.few c.requires.shape c.requires.room s.sound;
+    }
 
 pub returns : goal.returns
 returns c = let s = c.args.self.now in laid_held s.table c.args.row s.whole s.few c.requires.shape
