@@ -5,8 +5,8 @@ use Rattle.std.proofs.lemmas.List.{take_at, drop_at, drop-drop, length-take-le}
 use Rattle.rwpk.specs.Writing.{put_at}
 
 -- a write into a part of a buffer, as the checker reads it
-pub put_mid : (a k : ℕ) (xs ys zs : List ℕ) → k ≡ length ys → zs ≡ ys → put_mid a k xs zs ≡ put_at xs a ys
-put_mid a k xs ys zs e is =
+pub put_mid_is_put_at : (a k : ℕ) (xs ys zs : List ℕ) → k ≡ length ys → zs ≡ ys → put_mid a k xs zs ≡ put_at xs a ys
+put_mid_is_put_at a k xs ys zs e is =
     ap (λ ws. take a xs ++ (ws ++ drop k (drop a xs))) is
     ∙ ap (λ ws. take a xs ++ (ys ++ ws)) (drop-drop k a xs ∙ ap (λ n. drop (a + n) xs) e)
 

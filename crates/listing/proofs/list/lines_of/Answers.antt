@@ -7,7 +7,7 @@ use Rattle.listing.proofs.list.lines_of.Goals as goal
 
 pub push_sheet-requires : goal.push_sheet-requires
 push_sheet-requires c =
-    let small : Bytes c.args.input.now = λ i. omega (arith, c.type-inv.input i) in
+    let small : Bytes c.args.input.now = λ i. omega (arith, c.type_inv.input i) in
     let told = c.in-Ok.ensures in
     granted_room c.args.input.now (content c.load.new.sheet) _ _ told.answer told.after
     c.sides.result c.rows.result.now c.sides.ensures c.rows.ensures

@@ -19,7 +19,7 @@ row_at-requires c = omega (arith, c.loop.invariant.3)
 
 pub lay_at-requires : goal.lay_at-requires
 lay_at-requires c =
-    let small : Bytes c.args.input.now = λ i. omega (arith, c.type-inv.input i) in
+    let small : Bytes c.args.input.now = λ i. omega (arith, c.type_inv.input i) in
     record {
       few = omega (arith, c.loop.invariant.2);
       faultless = (row_back c.args.input.now small c.loop.place c.in_ok-row.row c.in_ok-row.ensures).faultless;
