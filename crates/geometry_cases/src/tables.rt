@@ -1,4 +1,5 @@
 // Tables of turns, centres and positions.
+use anyhow::anyhow;
 use geometry::{Body, PackedPlace, Place, Position, ProjectedRectangle, Sides, Turn, centre};
 use refusal::Refusal;
 
@@ -6,7 +7,7 @@ use refusal::Refusal;
 fn granted<T: Drop>(answer: Result<T, Refusal>) -> anyhow::Result<T> {
     match answer {
         Ok(value) => Ok(value),
-        Err(refusal) => Err(refusal.sentence().into()),
+        Err(refusal) => Err(anyhow!("{refusal}")),
     }
 }
 
