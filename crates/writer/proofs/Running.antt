@@ -11,7 +11,7 @@ use Rattle.rwpk.proofs.Copied.{parts_next}
 use Rattle.rwpk.proofs.Parted.{all_parts, parts_end, rows_long}
 use Rattle.rwpk.proofs.Puts.{put_next}
 use Rattle.sheet.specs.Rules.{Content}
-use Rattle.writer.specs.Runs.{done_after, HandedOn, Finished, Sealing}
+use Rattle.writer.specs.Runs.{done_after, HandedOn, Finished, ReadsBack, Sealing}
 use Rattle.writer.specs.Steps.{step_answer, step_done, seal_answer, seal_out}
 
 -- a granted call passed each of its tests
@@ -109,8 +109,8 @@ rows_there c outs k n out done e =
 
 -- the law over whole runs
 pub finished : (c : Content) (k : ℕ) (out : List ℕ) (r : Result ℕ Refusal) (new : List ℕ) → r ≡ seal_answer c k out → new ≡ seal_out r out →
-    (0 < length c.rows → box_of_bytes (box_of c) ≡ Ok c) → Finished c k out r new
-finished c k out r new is e back start outs h done ok = (e ∙ go r is ok, back (some r is ok))
+    Finished c k out r new
+finished c k out r new is e start outs h done ok = e ∙ go r is ok
   where
     begun : Begun c start k out
     begun = subst (λ j. Begun c start j out) done (begun_all c start 0 start outs out (record { holds = refl; long = refl }) h)
@@ -119,19 +119,22 @@ finished c k out r new is e back start outs h done ok = (e ∙ go r is ok, back 
     go (Err y) i o = absurd (true≢false (sym o))
     go (Ok n) i o = begun_seal c start k n out begun i
 
+-- and what a granted seal finished is read back
+pub reads_back : (c : Content) (k : ℕ) (out : List ℕ) (r : Result ℕ Refusal) → r ≡ seal_answer c k out →
+    (0 < length c.rows → box_of_bytes (box_of c) ≡ Ok c) → ReadsBack c k r
+reads_back c k out r is back outs done ok = back (some r is ok)
+  where
     some : (x : Result ℕ Refusal) → x ≡ seal_answer c k out → is_ok x ≡ true → 0 < length c.rows
     some (Err y) i o = absurd (true≢false (sym o))
     some (Ok n) i o = rows_there c outs k n out done i
 
-pub sealing : (c : Content) (k place : ℕ) → length c.rows ≤ 255 → place ≡ place_of c k →
-    (0 < length c.rows → box_of_bytes (box_of c) ≡ Ok c) → Sealing c k place
-sealing c k place few at back =
+pub sealing : (c : Content) (k place : ℕ) → length c.rows ≤ 255 → place ≡ place_of c k → Sealing c k place
+sealing c k place few at =
     record {
       end = λ e. at ∙ ap (place_of c) e ∙ parts_end c;
       large = omega arith;
       small = omega (arith, rows_long c.rows);
-      back = back;
-      run = λ out r is. finished c k out r (seal_out r out) is refl back;
+      run = λ out r is. finished c k out r (seal_out r out) is refl;
     }
 
 pub seal_granted : (c : Content) (k place : ℕ) (out : List ℕ) → k ≡ suc (length c.rows) → place ≡ length (box_of c) →

@@ -22,17 +22,20 @@ HandedOn c k out (o ∷ outs) last =
     × HandedOn c (step_done (step_answer c k o) k) (part_out (step_answer c k o) out (place_of c k) (part_at c k)) outs last
 
 -- A seal that was handed `out`, where k parts are written, and left `new`: if every granted step since the start was handed
--- one buffer, and the seal too, a granted seal leaves the finished box at its start, and the rest as it was at the start; and
--- that box is read back to the sheet's content.
+-- one buffer, and the seal too, a granted seal leaves the finished box at its start, and the rest as it was at the start.
 abbrev pub Finished : Content → ℕ → List ℕ → Result ℕ Refusal → List ℕ → Type 0
 Finished c k out r new =
     (start : List ℕ) (outs : List (List ℕ)) → HandedOn c 0 start outs out → done_after c 0 outs ≡ k → is_ok r ≡ true →
-    (new ≡ put_at start 0 (box_of c)) × (box_of_bytes (box_of c) ≡ Ok c)
+    new ≡ put_at start 0 (box_of c)
+
+-- A seal after k parts: if steps led there from the start, whatever they were handed, and it was granted, the finished box is
+-- read back to the sheet's content.
+abbrev pub ReadsBack : Content → ℕ → Result ℕ Refusal → Type 0
+ReadsBack c k r = (outs : List (List ℕ)) → done_after c 0 outs ≡ k → is_ok r ≡ true → box_of_bytes (box_of c) ≡ Ok c
 
 -- What a seal leans on, where k parts are written and the next would stand at this place.
 pub record Sealing (c : Content) (k place : ℕ) : Type 0 where
   pub end : k ≡ suc (length c.rows) → place ≡ length (box_of c)
   pub large : 26 ≤ length (box_of c)
   pub small : length (box_of c) < 8192
-  pub back : 0 < length c.rows → box_of_bytes (box_of c) ≡ Ok c
   pub run : (out : List ℕ) (r : Result ℕ Refusal) → r ≡ seal_answer c k out → Finished c k out r (seal_out r out)

@@ -1,10 +1,10 @@
 // The calls of a job.
-ghost use Rattle.std.specs.Prelude.{◌≡◌, ◌+◌, ◌≤◌, true, false, length, Ok, OnErr};
+ghost use Rattle.std.specs.Prelude.{◌≡◌, ℕ, ◌+◌, ◌≤◌, true, false, List, length, Ok, OnErr, Result};
 ghost use Rattle.rwpk.specs.Bytes.{box_of, word_bytes};
 ghost use Rattle.rwpk.specs.Parts.{part_at, place_of};
 ghost use Rattle.rwpk.specs.Writing.{put_at, part_out};
 ghost use Rattle.sheet.specs.Contents.{content};
-ghost use Rattle.writer.specs.Runs.{Finished, Sealing};
+ghost use Rattle.writer.specs.Runs.{Finished, ReadsBack, Sealing};
 ghost use Rattle.writer.specs.Steps.{step_answer, step_done, seal_answer, seal_out, seal_spent};
 
 use crate::fits::{rows_fit, sides_fit};
@@ -50,7 +50,9 @@ impl Job<'_> {
 
     // Does nothing. Whoever calls it knows what a seal at this place of the job comes to.
     fn sealing(&self)
-        ensures { Sealing (content self.now.sheet.now) self.now.done self.now.place }
+        ensures here { Sealing (content self.now.sheet.now) self.now.done self.now.place }
+        ensures back { (out : List ℕ) (r : Result ℕ Refusal) → r ≡ seal_answer (content self.now.sheet.now) self.now.done out →
+            ReadsBack (content self.now.sheet.now) self.now.done r }
     {
         self.sheet.facts();
         sides_fit(self.sheet.sides());
@@ -67,6 +69,7 @@ impl Job<'_> {
         ensures done { self.new.done ≡ self.old.done }
         ensures spent { self.new.spent ≡ true }
         ensures run { Finished (content self.old.sheet.now) self.old.done out.old (Ok result) out.new }
+        ensures back { ReadsBack (content self.old.sheet.now) self.old.done (Ok result) }
     {
         self.sealing();
         let size = self.place;
@@ -85,6 +88,7 @@ impl Job<'_> {
         ensures spent { self.new.spent ≡ seal_spent result self.old.spent }
         ensures refused { OnErr result (self.new ≡ self.old) }
         ensures run { Finished (content self.old.sheet.now) self.old.done out.old result out.new }
+        ensures back { ReadsBack (content self.old.sheet.now) self.old.done result }
     {
         self.sealing();
         if self.done != self.sheet.len() + 1 {

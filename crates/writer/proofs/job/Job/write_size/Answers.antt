@@ -8,13 +8,14 @@ returns c =
     let j = c.args.self.now in
     let m = content j.sheet.now in
     let all : j.done ≡ suc (length m.rows) = omega (arith, c.requires.due) in
-    let end = c.sealing.ensures.end all in
+    let end = c.sealing.ensures.here.end all in
+    let granted = seal_granted m j.done j.place c.args.out.now all end c.requires.room in
     record {
       answer = end;
       out = c.put_size.ensures;
       sheet = refl;
       done = refl;
       spent = refl;
-      run =
-          finished m j.done c.args.out.now _ _ (seal_granted m j.done j.place c.args.out.now all end c.requires.room) c.put_size.ensures c.sealing.ensures.back;
+      run = finished m j.done c.args.out.now _ _ granted c.put_size.ensures;
+      back = c.sealing.ensures.back _ _ granted;
     }
