@@ -1,17 +1,13 @@
 -- One small film, worked through by hand: what the rules give for it, as one fact.
-use Rattle.std.specs.Prelude.{◌≡◌, ℕ, false, List, [], ◌∷◌, ◌++◌, take, Some, None, Ok, Err, codes, Option, slice_set}
+use Rattle.std.specs.Prelude.{◌≡◌, ℕ, false, List, [], ◌∷◌, ◌++◌, take, Some, None, Ok, Err, codes, slice_set}
 use Rattle.refusal.specs.declared.Refusal.{Refusal}
 use Rattle.refusal.specs.declared.Refusal.TheVariants.{InputEnds, NoPayload, ClaimLeaves, ClaimMeets, NoFreeSpot, NoSuchRow}
-use Rattle.geometry.specs.declared.place.PackedPlace.{PackedPlace}
-use Rattle.geometry.specs.declared.place.ProjectedPlace.{ProjectedPlace}
 use Rattle.geometry.specs.declared.search.Spot.{Spot}
 use Rattle.geometry.specs.Places.{at, by}
 use Rattle.geometry.specs.Positions.{over}
 use Rattle.sheet.specs.declared.row.Draft.{Draft}
-use Rattle.sheet.specs.declared.row.FourSides.{FourSides}
 use Rattle.sheet.specs.declared.row.GuardBands.{GuardBands}
 use Rattle.sheet.specs.declared.row.Row.{Row}
-use Rattle.sheet.specs.declared.row.SheetSides.{SheetSides}
 use Rattle.sheet.specs.Rules.{Content, new_sheet, open_next, lay_answer, place_answer, place_next, lift_answer, lift_next}
 use Rattle.sheet.specs.Serving.{position_answer, served_place, serve_answer}
 use Rattle.rwpk.specs.declared.fault.Fault.{Fault}

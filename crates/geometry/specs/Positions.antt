@@ -1,5 +1,5 @@
 -- The position of a body's place in the projected picture, and the standard's formula beside it.
-use Rattle.std.specs.Prelude.{ℕ, ◌+◌, ◌*◌, ◌/◌, cond, [], Some, None, Ok, Err, Option, Result, ◌==◌}
+use Rattle.std.specs.Prelude.{ℕ, ◌+◌, ◌*◌, ◌/◌, cond, Some, None, Ok, Err, Option, Result, ◌==◌}
 use Rattle.refusal.specs.declared.Refusal.{Refusal}
 use Rattle.refusal.specs.declared.Refusal.TheVariants.{PlaceOutside}
 use Rattle.geometry.specs.declared.place.Body.{Body}

@@ -1,5 +1,5 @@
 -- The sides of a row can be carried.
-use Rattle.std.proofs.Common.{ℕ, ◌+◌, ◌-◌, ◌*◌, ◌^◌, ◌<◌, Bool, true, false, cond, arith}
+use Rattle.std.proofs.Common.{ℕ, ◌-◌, ◌*◌, ◌^◌, ◌<◌, Bool, true, false, cond, arith}
 use Rattle.std.proofs.lemmas.Nat.{mul-le}
 
 -- a side of 16 bits and one of 32

@@ -18,7 +18,7 @@ use Rattle.sheet.specs.Serving.{turn_in, covers_place}
 use Rattle.packing.specs.declared.carry.Carry.{Carry}
 use Rattle.packing.specs.declared.rows.Way.{Way}
 use Rattle.packing.specs.declared.rows.Way.TheVariants.{Pack, Unpack}
-use Rattle.packing.specs.Carries.{inwards, outwards, source, counted, carried}
+use Rattle.packing.specs.Carries.{inwards, outwards, source, carried}
 use Rattle.packing.specs.Moves.{body_corner, holds, centre_of, server_of, lowest, pulled}
 use Rattle.packing.specs.RowCarries.{pack_carry, unpack_carry, has_of, origin_of, row_carry}
 

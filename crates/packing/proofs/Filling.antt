@@ -1,10 +1,10 @@
 -- Boxes filled place by place, line by line and box by box.
-use Rattle.std.proofs.Common.{◌≡◌, ℕ, ◌+◌, ◌-◌, ◌≤◌, Bool, true, false, cond, ◌&&◌, ◌||◌, eqb, ltb, leb, List, [], ◌∷◌, Some, None, Option, sym, refl, ap, ◌∙◌, arith}
+use Rattle.std.proofs.Common.{◌≡◌, ℕ, ◌+◌, ◌-◌, Bool, true, false, cond, ◌||◌, List, ◌∷◌, Some, None, Option, sym, refl, ap, arith}
 use Rattle.std.specs.Option.{option_map}
 use Rattle.std.proofs.lemmas.Bool.Decides.{nat_tests}
 use Rattle.geometry.specs.declared.bounds.Bounds.{Bounds}
 use Rattle.geometry.specs.declared.place.Place.{Place}
-use Rattle.geometry.specs.Boxes.{lies, has, covers}
+use Rattle.geometry.specs.Boxes.{has, covers}
 use Rattle.geometry.specs.Places.{at}
 use Rattle.picture.specs.Picture.{Picture, same_place, painted}
 use Rattle.picture.proofs.Pictures.{same_picture}

@@ -1,12 +1,12 @@
 -- A body holds a packed place exactly where the sheet's law of bodies says so.
-use Rattle.std.proofs.Common.{◌≡◌, ℕ, ◌+◌, ◌-◌, ◌<◌, ◌≤◌, true, ◌&&◌, List, Some, arith}
+use Rattle.std.proofs.Common.{◌≡◌, ℕ, ◌+◌, ◌-◌, ◌<◌, ◌≤◌, true, List, Some, arith}
 use Rattle.std.specs.List.{slice_get}
 use Rattle.std.proofs.lemmas.Bool.{and_parts, and_from}
 use Rattle.geometry.specs.declared.place.Place.{Place}
 use Rattle.geometry.specs.declared.place.Sides.{Sides}
 use Rattle.geometry.specs.Boxes.{lies}
 use Rattle.geometry.specs.Places.{inside}
-use Rattle.geometry.proofs.Insides.{Within, within, inside_from}
+use Rattle.geometry.proofs.Insides.{inside_from}
 use Rattle.geometry.proofs.Jumping.{lies_in, in_lies}
 use Rattle.sheet.specs.declared.row.Row.{Row}
 use Rattle.sheet.specs.Words.{InBody}

@@ -1,9 +1,8 @@
 -- The rows of a sheet lie inside pictures of its sides, and so do their carries.
-use Rattle.std.proofs.Common.{◌≡◌, ℕ, zero, suc, ◌+◌, ◌-◌, ◌<◌, ◌≤◌, Bool, true, false, cond, ◌&&◌, eqb, List, [], ◌∷◌, Some, subst, arith}
+use Rattle.std.proofs.Common.{◌≡◌, ℕ, zero, suc, ◌+◌, ◌-◌, ◌≤◌, Bool, true, false, cond, eqb, List, [], ◌∷◌, Some, arith}
 use Rattle.std.specs.List.{AllByRecursion as All, slice_get}
 use Rattle.std.proofs.lemmas.Bool.{and_parts, eqb-true}
 use Rattle.geometry.specs.declared.place.Sides.{Sides}
-use Rattle.geometry.specs.declared.turn.Turn.{Turn}
 use Rattle.picture.specs.Picture.{Picture}
 use Rattle.sheet.specs.declared.row.Row.{Row}
 use Rattle.sheet.specs.declared.row.PackedSides.{PackedSides}
@@ -14,7 +13,7 @@ use Rattle.sheet.specs.Words.{InBody, Bodies, Shaped, Facts}
 use Rattle.packing.specs.declared.rows.Way.{Way}
 use Rattle.packing.specs.declared.rows.Way.TheVariants.{Pack, Unpack}
 use Rattle.packing.specs.Carries.{Able, CarryFits}
-use Rattle.packing.specs.Moves.{holds, is_projected, is_packed}
+use Rattle.packing.specs.Moves.{is_projected, is_packed}
 use Rattle.packing.specs.RowCarries.{pack_carry, unpack_carry, row_carry, LiesIn, Lies}
 use Rattle.packing.proofs.Holding.{in_body}
 

@@ -1,14 +1,12 @@
 -- The claim map: rows marked from the last to the first, and what the marks say.
-use Rattle.std.proofs.Common.{◌≡◌, ℕ, zero, suc, ◌+◌, ◌-◌, ◌<◌, ◌≤◌, Bool, true, false, cond, ◌&&◌, eqb, ltb, leb, List, [], ◌∷◌, length, get_or, drop, is_some, Some, None, Option, sym, refl, ap, ◌∙◌, subst, ap₂, arith}
+use Rattle.std.proofs.Common.{◌≡◌, ℕ, zero, suc, ◌+◌, ◌-◌, ◌<◌, ◌≤◌, Bool, true, false, cond, eqb, List, [], ◌∷◌, length, get_or, drop, is_some, Some, None, Option, sym, refl, ap, ◌∙◌, ap₂, arith}
 use Rattle.std.specs.Option.{option_map}
 use Rattle.std.specs.List.{slice_get}
 use Rattle.std.proofs.lemmas.List.{at_drop_more, at_drop_all}
 use Rattle.std.proofs.lemmas.Bool.{and_parts, cond-true, cond-false, eqb-true, false≢true}
 use Rattle.std.proofs.lemmas.Bool.Decides.{nat_tests}
-use Rattle.geometry.specs.declared.bounds.Bounds.{Bounds}
 use Rattle.geometry.specs.declared.place.Place.{Place}
-use Rattle.geometry.specs.declared.place.Sides.{Sides}
-use Rattle.geometry.specs.Boxes.{lies, has, covers}
+use Rattle.geometry.specs.Boxes.{has, covers}
 use Rattle.geometry.specs.Places.{at, by, inside}
 use Rattle.geometry.proofs.Insides.{inside_from}
 use Rattle.picture.specs.declared.mark.Mark.{Mark}
@@ -18,9 +16,9 @@ use Rattle.picture.proofs.Pictures.{same_picture}
 use Rattle.sheet.specs.declared.row.Row.{Row}
 use Rattle.sheet.specs.Claims.{no_reach, widened, claim}
 use Rattle.sheet.specs.Rules.{Content}
-use Rattle.sheet.specs.Words.{Claims, InBody, Facts}
+use Rattle.sheet.specs.Words.{InBody, Facts}
 use Rattle.sheet.proofs.Apart.{body_claimed}
-use Rattle.packing.specs.Maps.{mark_at, claim_map, Marks, Marked, filled, filled_all, marked}
+use Rattle.packing.specs.Maps.{mark_at, claim_map, Marked, filled, filled_all, marked}
 use Rattle.packing.specs.Moves.{holds, is_packed}
 use Rattle.packing.proofs.Filling.{box}
 use Rattle.packing.proofs.Numbering.{none_there, some_same, not_so}

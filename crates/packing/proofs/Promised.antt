@@ -15,7 +15,7 @@ use Rattle.edits.specs.declared.edit.Edit.{Edit}
 use Rattle.edits.specs.declared.edit.Edit.TheVariants.{Place as PlaceEdit}
 use Rattle.edits.specs.Runs.{answer, next, left_by, spot_answered, Ran}
 use Rattle.packing.specs.Moves.{fit, fitted, is_projected, is_packed, Packs, Unpacks}
-use Rattle.packing.specs.Promise.{sheet_after, Run, Passes, Placing, Promise, Rehearsed}
+use Rattle.packing.specs.Promise.{sheet_after, Passes, Placing, Promise, Rehearsed}
 use Rattle.packing.proofs.Numbering.{none_there, some_same}
 use Rattle.packing.proofs.Returning.{granted, serve_is, packs, unpacks, fine, unlike, coarse}
 

@@ -1,10 +1,9 @@
 -- What returns, by a sheet whose rows are well shaped and whose bodies lie inside and apart.
-use Rattle.std.proofs.Common.{◌≡◌, ℕ, ◌+◌, ◌-◌, ◌<◌, ◌≤◌, Bool, true, false, cond, Some, None, Ok, Err, Option, Result, sym, refl, ap, ◌∙◌, ap₂, arith}
+use Rattle.std.proofs.Common.{◌≡◌, ℕ, ◌+◌, ◌-◌, ◌≤◌, Bool, true, false, Some, None, Ok, sym, refl, ap, ◌∙◌, ap₂, arith}
 use Rattle.std.specs.Option.{option_map}
 use Rattle.std.proofs.lemmas.Bool.{cond-true}
-use Rattle.refusal.specs.declared.Refusal.{Refusal}
 use Rattle.geometry.specs.declared.place.Place.{Place}
-use Rattle.geometry.specs.Places.{at, inside, sides_of}
+use Rattle.geometry.specs.Places.{at, sides_of}
 use Rattle.geometry.proofs.Insides.{Within, within, inside_from}
 use Rattle.picture.specs.Picture.{Picture}
 use Rattle.picture.specs.Draws.{taken}
@@ -14,8 +13,8 @@ use Rattle.sheet.specs.Serving.{centre_sample, covers_place, served_place, serve
 use Rattle.sheet.specs.Words.{Shaped, Facts}
 use Rattle.sheet.proofs.Serves.{Covered, covered, laws}
 use Rattle.packing.specs.Carries.{counted}
-use Rattle.packing.specs.Moves.{body_corner, holds, centre_of, server_of, given, pack_source, unpack_source, packed_of, unpacked_of, fit, fitted, Packs, Unpacks}
-use Rattle.packing.specs.Promise.{Numbered, Serves, Returns, Alike, TakesCentres, TakesServed, FineReturns, CoarseReturns}
+use Rattle.packing.specs.Moves.{body_corner, holds, centre_of, server_of, pack_source, unpack_source, packed_of, unpacked_of, fit, fitted, Packs, Unpacks}
+use Rattle.packing.specs.Promise.{Numbered, Serves, Alike, TakesCentres, TakesServed, FineReturns, CoarseReturns}
 use Rattle.packing.proofs.Holding.{Among, among, spanned, counted_inside, held_in}
 use Rattle.packing.proofs.Numbering.{all_at, lowest_is, lowest_none, serving_is}
 

@@ -1,10 +1,9 @@
 -- Where packed and projected places take their samples from, and what pack and unpack answer and leave.
-use Rattle.std.specs.Prelude.{◌≡◌, ℕ, ◌+◌, ◌≤◌, Bool, cond, ◌&&◌, List, [], ◌∷◌, Some, None, Ok, Err, Option, Result, ◌==◌}
+use Rattle.std.specs.Prelude.{◌≡◌, ℕ, ◌+◌, Bool, cond, ◌&&◌, List, [], ◌∷◌, Some, None, Ok, Err, Option, Result, ◌==◌}
 use Rattle.std.specs.Option.{option_map}
 use Rattle.refusal.specs.declared.Refusal.{Refusal}
 use Rattle.refusal.specs.declared.Refusal.TheVariants.{UnfitSides}
 use Rattle.geometry.specs.declared.place.Place.{Place}
-use Rattle.geometry.specs.declared.place.Sides.{Sides}
 use Rattle.geometry.specs.Places.{at, sides_of}
 use Rattle.picture.specs.Picture.{Picture}
 use Rattle.picture.specs.Draws.{Sources, taken, drawn}

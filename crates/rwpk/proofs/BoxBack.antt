@@ -8,7 +8,7 @@ use Rattle.sheet.specs.declared.row.Row.{Row}
 use Rattle.sheet.specs.declared.row.SheetSides.{SheetSides}
 use Rattle.sheet.specs.Claims.{claim, claim_inside, meets_any}
 use Rattle.sheet.specs.Rules.{Content, empty_picture, leaves_projected}
-use Rattle.sheet.specs.Sound.{sound, sound_row, sound_rows}
+use Rattle.sheet.specs.Sound.{sound_row, sound_rows}
 use Rattle.sheet.proofs.Rows.{sound_push, sound_from}
 use Rattle.rwpk.specs.Boxes.{count_of, sides_of, judged, row_length, rows_from, box_of_bytes}
 use Rattle.rwpk.specs.Bytes.{word_bytes, row_bytes, rows_bytes, sides_bytes, head_bytes, box_of}

@@ -1,6 +1,6 @@
-use Rattle.std.proofs.Common.{◌≡◌, ◌+◌, drop, sym, ap, ◌∙◌}
+use Rattle.std.proofs.Common.{◌+◌, drop, sym, ap, ◌∙◌}
 use Rattle.std.proofs.lemmas.List.{at_drop_more, at_drop_all}
-use Rattle.packing.specs.Maps.{filled, filled_all}
+use Rattle.packing.specs.Maps.{filled_all}
 use Rattle.packing.proofs.Filling.{boxes_more}
 use Rattle.packing.proofs.claim_map.fill_all.Goals as goal
 

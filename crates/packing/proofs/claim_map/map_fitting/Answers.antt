@@ -1,5 +1,4 @@
-use Rattle.std.proofs.Common.{◌≡◌, true, List, length, sym, ap, ◌∙◌, subst, ap₂, arith}
-use Rattle.std.proofs.lemmas.Bool.{cond-true}
+use Rattle.std.proofs.Common.{◌≡◌, List, length, sym, ap, ◌∙◌, subst, ap₂, arith}
 use Rattle.picture.specs.Picture.{Picture}
 use Rattle.picture.specs.declared.mark.Mark.{Mark}
 use Rattle.sheet.specs.declared.row.Row.{Row}
@@ -7,7 +6,6 @@ use Rattle.picture.specs.declared.mark.Mark.TheVariants.{Nobody}
 use Rattle.sheet.specs.declared.row.SheetSides.{SheetSides}
 use Rattle.sheet.specs.Contents.{content}
 use Rattle.packing.specs.Maps.{claim_map, Marked, filled, marked}
-use Rattle.packing.specs.Moves.{is_packed}
 use Rattle.packing.proofs.Filling.{box}
 use Rattle.packing.proofs.Marking.{map_is, map_words}
 use Rattle.packing.proofs.claim_map.map_fitting.Goals as goal

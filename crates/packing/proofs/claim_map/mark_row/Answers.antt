@@ -1,4 +1,4 @@
-use Rattle.std.proofs.Common.{◌≡◌, List, ap, ◌∙◌, ap₂}
+use Rattle.std.proofs.Common.{List, ap, ◌∙◌, ap₂}
 use Rattle.geometry.specs.declared.bounds.Bounds.{Bounds}
 use Rattle.picture.specs.declared.mark.Mark.TheVariants.{Body, Band}
 use Rattle.packing.specs.Maps.{filled, filled_all}

@@ -1,4 +1,4 @@
-use Rattle.std.proofs.Common.{◌≡◌, ◌-◌, [], ◌∷◌, length, get_or, ap, ◌∙◌, arith}
+use Rattle.std.proofs.Common.{◌-◌, [], ◌∷◌, length, get_or, ap, ◌∙◌, arith}
 use Rattle.packing.specs.Maps.{marked}
 use Rattle.packing.proofs.Carrying.{no_row}
 use Rattle.packing.proofs.Marking.{marked_none, marked_front}

@@ -1,4 +1,4 @@
-use Rattle.std.proofs.Common.{◌*◌, ◌^◌, ◌<◌, mul_comm, arith}
+use Rattle.std.proofs.Common.{mul_comm, arith}
 use Rattle.packing.proofs.Able.{product_small}
 use Rattle.packing.proofs.course.small_product.Goals as goal
 

@@ -1,11 +1,11 @@
-use Rattle.std.proofs.Common.{◌≡◌, ◌-◌, ◌<◌, length, get_or, sym, ap, ◌∙◌, subst, arith}
+use Rattle.std.proofs.Common.{◌-◌, ◌<◌, length, get_or, sym, ap, ◌∙◌, subst, arith}
 use Rattle.std.proofs.ByRecursion.{All-get_or}
 use Rattle.geometry.specs.declared.place.Place.{Place}
 use Rattle.geometry.specs.declared.place.Sides.{Sides}
 use Rattle.picture.specs.Picture.{Picture}
 use Rattle.packing.specs.declared.carry.Carry.{Carry}
 use Rattle.packing.specs.Carries.{Able, CarryFits, carried}
-use Rattle.packing.specs.RowCarries.{has_of, origin_of, row_carry, Lies}
+use Rattle.packing.specs.RowCarries.{has_of, origin_of, Lies}
 use Rattle.packing.proofs.Carrying.{no_row, drawn_none, drawn_front, row_carried}
 use Rattle.packing.proofs.Lying.{lies_shaped, row_fits}
 use Rattle.packing.proofs.moving.move_rows.Goals as goal

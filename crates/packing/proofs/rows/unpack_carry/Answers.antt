@@ -1,4 +1,4 @@
-use Rattle.std.proofs.Common.{◌≡◌, ℕ, ◌<◌, Bool, sym, ap, ◌∙◌, subst}
+use Rattle.std.proofs.Common.{ℕ, ◌<◌, Bool, sym, ap, subst}
 use Rattle.packing.proofs.Able.{either_pos}
 use Rattle.packing.proofs.rows.unpack_carry.Goals as goal
 

@@ -1,4 +1,4 @@
-use Rattle.std.proofs.Common.{sym, subst}
+use Rattle.std.proofs.Common.{subst}
 use Rattle.std.specs.List.{AllByRecursion as All}
 use Rattle.rwpk.proofs.BoxThere.{box_there}
 use Rattle.rwpk.specs.Laws.{SidesFit, RowFits}
