@@ -1,6 +1,6 @@
 -- How long a listing may be.
 use Rattle.std.proofs.Common.{◌≡◌, ℕ, suc, ◌+◌, ◌*◌, ◌^◌, ◌<◌, ◌≤◌, true, false, cond, not, ◌&&◌, ◌||◌, ltb, List, [], ◌∷◌, ◌++◌, length, Some, None, codes, decimal, Option, arith, length-append}
-use Rattle.std.specs.List.{AllByRecursion as All}
+use Rattle.std.specs.List.{AllByRecursion}
 use Rattle.std.proofs.lemmas.Fmt.{length-decimal-le}
 use Rattle.std.proofs.lemmas.Bool.{and_parts, or_parts, ltb-false}
 use Rattle.refusal.specs.declared.Refusal.{Refusal}
@@ -20,7 +20,7 @@ use Rattle.listing.specs.Lines.{items, band_items, plain_items, row_line, row_li
 
 -- each number has at most ten digits
 abbrev Small : List ℕ → Type 0
-Small ns = All (λ n. n < 2 ^ 32) ns
+Small ns = AllByRecursion (λ n. n < 2 ^ 32) ns
 
 items_short : (ns : List ℕ) → Small ns → length (items ns) ≤ 11 * length ns
 items_short [] h = omega arith
@@ -92,7 +92,7 @@ row_short s i r lt (p, b, sizes) h =
       length-append (items (band_items r.bands)) (10 ∷ []),
     )
 
-rows_short : (s : SheetSides) (rows : List Row) (i : ℕ) → i + length rows ≤ 2 ^ 31 → All RowFits rows → sound_rows s rows ≡ true →
+rows_short : (s : SheetSides) (rows : List Row) (i : ℕ) → i + length rows ≤ 2 ^ 31 → AllByRecursion RowFits rows → sound_rows s rows ≡ true →
     length (row_lines i rows) ≤ 209 * length rows
 rows_short s [] i le f h = omega arith
 rows_short s (r ∷ rows) i le f h =

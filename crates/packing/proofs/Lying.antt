@@ -1,6 +1,6 @@
 -- The rows of a sheet lie inside pictures of its sides, and so do their carries.
 use Rattle.std.proofs.Common.{◌≡◌, ℕ, zero, suc, ◌+◌, ◌-◌, ◌≤◌, Bool, true, false, cond, eqb, List, [], ◌∷◌, Some, arith}
-use Rattle.std.specs.List.{AllByRecursion as All, slice_get}
+use Rattle.std.specs.List.{AllByRecursion, slice_get}
 use Rattle.std.proofs.lemmas.Bool.{and_parts, eqb-true}
 use Rattle.geometry.specs.declared.place.Sides.{Sides}
 use Rattle.picture.specs.Picture.{Picture}
@@ -76,10 +76,10 @@ body_lies packed rows n r bodies here sided =
 module _ (s : SheetSides) (projected packed : Sides) where
   -- what is known of each row, by its number, is known of all
   lie_all : (rows : List Row) → projected ≡ s.projected → packed.width ≡ s.packed.width → packed.height ≡ s.packed.height →
-      All (Shaped s) rows →
+      AllByRecursion (Shaped s) rows →
       ((n : ℕ) (r : Row) → slice_get rows n ≡ Some r → Sided r →
       (r.body.left + r.body.width ≤ s.packed.width) × (r.body.top + r.body.height ≤ s.packed.height)) →
-      All (LiesIn projected packed) rows
+      AllByRecursion (LiesIn projected packed) rows
   lie_all [] p w h shaped bodies = tt
   lie_all (r ∷ rows) p w h (here, rest) bodies =
       let (a, d) = bodies zero r (λ _. Some r) here.sided in
@@ -98,7 +98,7 @@ module _ (s : SheetSides) (projected packed : Sides) where
 
 -- the rows of a sheet, in pictures that have its sides
 pub rows_lie : {A B : Type 0} (c : Content) (rows : List Row) (p : Picture A) (k : Picture B) → rows ≡ c.rows → Facts c →
-    is_projected c p ≡ true → is_packed c k ≡ true → All (LiesIn p.sides k.sides) rows
+    is_projected c p ≡ true → is_packed c k ≡ true → AllByRecursion (LiesIn p.sides k.sides) rows
 rows_lie c rows p k same facts projected packed =
     let (pw, ph) = and_parts (eqb p.sides.width c.sides.projected.width) (eqb p.sides.height c.sides.projected.height) projected in
     let (kw, kh) = and_parts (eqb k.sides.width c.sides.packed.width) (eqb k.sides.height c.sides.packed.height) packed in

@@ -1,6 +1,6 @@
 -- Rows by their numbers.
 use Rattle.std.proofs.Common.{◌≡◌, ℕ, zero, suc, ◌+◌, ◌<◌, Bool, true, false, List, [], ◌∷◌, Some, None, Ok, refl, ap, ◌∙◌, subst, arith}
-use Rattle.std.specs.List.{AllByRecursion as All, slice_get}
+use Rattle.std.specs.List.{AllByRecursion, slice_get}
 use Rattle.std.proofs.lemmas.Bool.{cond-true, cond-false}
 use Rattle.geometry.specs.declared.place.Place.{Place}
 use Rattle.sheet.specs.declared.row.Row.{Row}
@@ -17,7 +17,7 @@ pub not_so : (b : Bool) → (b ≡ true → ⊥) → b ≡ false
 not_so true f = absurd (f refl)
 not_so false f = refl
 
-pub all_at : {X : Type 0} (P : X → Type 0) (xs : List X) (n : ℕ) (x : X) → All P xs → slice_get xs n ≡ Some x → P x
+pub all_at : {X : Type 0} (P : X → Type 0) (xs : List X) (n : ℕ) (x : X) → AllByRecursion P xs → slice_get xs n ≡ Some x → P x
 all_at P [] n x a e = absurd (none_there x e)
 all_at P (y ∷ xs) zero x (here, rest) e = subst P (some_same y x e) here
 all_at P (y ∷ xs) (suc n) x (here, rest) e = all_at P xs n x rest e

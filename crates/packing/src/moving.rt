@@ -1,6 +1,6 @@
 // All rows of a sheet carried one way.
 ghost use Rattle.std.specs.Prelude.{◌≡◌};
-ghost use Rattle.std.specs.List.{AllByRecursion as All};
+ghost use Rattle.std.specs.List.{AllByRecursion};
 ghost use Rattle.picture.specs.Draws.{drawn};
 ghost use Rattle.packing.specs.RowCarries.{Lies, row_source};
 
@@ -16,7 +16,7 @@ pub(crate) fn move_rows<P: Store, Q: Store<Sample = P::Sample>>(
     from: &P,
     to: &mut Q,
 )
-    requires { All (Lies way (P.Store.shown from.now).sides (Q.Store.shown to.old).sides) rows.now }
+    requires { AllByRecursion (Lies way (P.Store.shown from.now).sides (Q.Store.shown to.old).sides) rows.now }
     ensures after { Q.Store.shown to.new ≡ drawn (row_source way rows.now)
         (P.Store.shown from.now) (Q.Store.shown to.old) }
     ensures rest { Q.Store.kept to.old to.new }

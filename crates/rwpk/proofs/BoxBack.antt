@@ -1,6 +1,6 @@
 -- From a box that was read back to its bytes.
 use Rattle.std.proofs.Common.{◌≡◌, ℕ, zero, suc, ◌+◌, ◌/◌, ◌<◌, ◌≤◌, true, not, eqb, ltb, List, [], ◌∷◌, ◌++◌, length, Ok, codes, sym, refl, ap, ◌∙◌, subst, append_assoc, arith, length-append}
-use Rattle.std.specs.List.{AllByRecursion as All}
+use Rattle.std.specs.List.{AllByRecursion}
 use Rattle.std.proofs.lemmas.List.{take_all, append-nil}
 use Rattle.std.proofs.lemmas.Bool.{ltb-false, eqb-true, eqb-false, not-false, not_from_false, and_from}
 use Rattle.refusal.specs.declared.Refusal.TheVariants.{SizeDiffers, NotRwpk, Paired, ReservedBit, NoRows, LeavesProjected, ClaimLeaves, ClaimMeets, BytesLeft}
@@ -97,7 +97,7 @@ module _ (input : List ℕ) (small : Bytes input) where
     count : length more ≡ n
     stand : Stands (rows_bytes more) input p
     end : p + length (rows_bytes more) ≡ length input
-    fit : All RowFits more
+    fit : AllByRecursion RowFits more
     sound : sound_rows s rows ≡ true
 
   rows_back : (s : SheetSides) (n : ℕ) (sofar : List Row) (p : ℕ) (rows : List Row) → p ≤ length input → sound_rows s sofar ≡ true →

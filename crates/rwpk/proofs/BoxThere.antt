@@ -1,6 +1,6 @@
 -- The box of a content reads back to it.
 use Rattle.std.proofs.Common.{◌≡◌, ℕ, ◌+◌, ◌<◌, ◌≤◌, true, false, not, ◌||◌, eqb, ltb, List, [], ◌∷◌, ◌++◌, length, Ok, codes, sym, refl, ap, ◌∙◌, append_assoc, arith, length-append}
-use Rattle.std.specs.List.{AllByRecursion as All}
+use Rattle.std.specs.List.{AllByRecursion}
 use Rattle.std.proofs.lemmas.List.{take_all, append-nil}
 use Rattle.std.proofs.lemmas.Bool.{ne_eqb, eq-eqb, le-ltb, and_parts, or_parts, or_from, not-true, not_from_true}
 use Rattle.refusal.specs.declared.Refusal.TheVariants.{SizeDiffers, NoPayload, NoRows, LeavesProjected, ClaimLeaves, ClaimMeets, BytesLeft}
@@ -35,7 +35,7 @@ in_order s (x ∷ sofar) r rows h =
     met c (y ∷ xs) e = met c xs (or_parts (meets c (claim y)) (meets_any c (xs ++ r ∷ rows)) e).1
 
 module _ (input : List ℕ) where
-  rows_there : (s : SheetSides) (rows sofar : List Row) (p : ℕ) → sound_rows s (sofar ++ rows) ≡ true → All RowFits rows →
+  rows_there : (s : SheetSides) (rows sofar : List Row) (p : ℕ) → sound_rows s (sofar ++ rows) ≡ true → AllByRecursion RowFits rows →
       Stands (rows_bytes rows) input p → p + length (rows_bytes rows) ≡ length input →
       rows_from s (length rows) sofar input p ≡ Ok (sofar ++ rows)
   rows_there s [] sofar p ok fit st e =

@@ -1,6 +1,6 @@
 -- What holds between inputs and contents.
 use Rattle.std.specs.Prelude.{◌≡◌, ℕ, suc, ◌^◌, ◌<◌, true, List, ◌++◌, length, drop, Some, None, Ok, Option, slice_index}
-use Rattle.std.specs.List.{AllByRecursion as All}
+use Rattle.std.specs.List.{AllByRecursion}
 use Rattle.geometry.specs.declared.place.Body.{Body}
 use Rattle.geometry.specs.declared.place.ProjectedRectangle.{ProjectedRectangle}
 use Rattle.sheet.specs.declared.row.GuardBands.{GuardBands}
@@ -44,7 +44,7 @@ pub record HasBox (c : Content) : Type 0 where
   pub some : 0 < length c.rows
   pub few : Fits 1 (length c.rows)
   pub sides : SidesFit c.sides
-  pub rows : All RowFits c.rows
+  pub rows : AllByRecursion RowFits c.rows
 
 -- an input that is the box of some content
 pub record IsBox (input : List ℕ) : Type 0 where

@@ -1,6 +1,6 @@
 -- A spot is in no blocked box exactly where it is free.
 use Rattle.std.proofs.Common.{◌≡◌, ℕ, ◌<◌, Bool, true, false, cond, not, ◌&&◌, ◌||◌, List, [], ◌∷◌, ◌++◌, map, Some, None, Ok, Err, Option, Result, sym, refl, ap, ◌∙◌, subst, ap₂, arith}
-use Rattle.std.specs.List.{flat_map, AllByRecursion as All}
+use Rattle.std.specs.List.{flat_map, AllByRecursion}
 use Rattle.std.proofs.ByRecursion.{All-weaker}
 use Rattle.std.proofs.lemmas.Bool.{and_parts, false≢true}
 use Rattle.std.proofs.lemmas.Bool.Decides.{nat_tests}
@@ -43,7 +43,7 @@ covers_map : {X : Type 0} (g : X → Bounds) (xs : List X) (y x : ℕ) → cover
 covers_map g [] y x = refl
 covers_map g (c ∷ xs) y x = ap (λ (r : Bool). has (g c) y x || r) (covers_map g xs y x)
 
-any_same : {X : Type 0} (p q : X → Bool) (xs : List X) → All (λ x. p x ≡ q x) xs → any p xs ≡ any q xs
+any_same : {X : Type 0} (p q : X → Bool) (xs : List X) → AllByRecursion (λ x. p x ≡ q x) xs → any p xs ≡ any q xs
 any_same p q [] h = refl
 any_same p q (x ∷ xs) (h, hs) = ap₂ (λ (a b : Bool). a || b) h (any_same p q xs hs)
 
@@ -59,7 +59,7 @@ any_not p (x ∷ xs) = ap (λ (r : Bool). not (p x) || r) (any_not p xs) ∙ de_
     de_morgan true b = refl
     de_morgan false b = refl
 
-all_of : {X : Type 0} (P : X → Type 0) → ((x : X) → P x) → (xs : List X) → All P xs
+all_of : {X : Type 0} (P : X → Type 0) → ((x : X) → P x) → (xs : List X) → AllByRecursion P xs
 all_of P h [] = tt
 all_of P h (x ∷ xs) = (h x, all_of P h xs)
 
@@ -67,13 +67,13 @@ all_of P h (x ∷ xs) = (h x, all_of P h xs)
 abbrev Ends : Bounds → Type 0
 Ends b = (0 < b.right) × (0 < b.bottom)
 
-ends : (r : Row) → empty_row r ≡ false → All Ends (claim r)
+ends : (r : Row) → empty_row r ≡ false → AllByRecursion Ends (claim r)
 ends r h = go r.bands
   where
     sides : Sided r
     sides = sided r h
 
-    go : (bands : Option GuardBands) → All Ends (map (widened r.body) (reaches bands))
+    go : (bands : Option GuardBands) → AllByRecursion Ends (map (widened r.body) (reaches bands))
     go None = ((omega (arith, sides.wide), omega (arith, sides.high)), tt)
     go (Some x) = ((omega (arith, sides.wide), omega (arith, sides.high)), tt)
 
@@ -100,7 +100,7 @@ both : (inside meet : Bool) → (inside && not meet) ≡ not (not inside || meet
 both true m = refl
 both false m = refl
 
-module _ (c : Content) (d : Draft) (solid : All (λ r. empty_row r ≡ false) c.rows) where
+module _ (c : Content) (d : Draft) (solid : AllByRecursion (λ r. empty_row r ≡ false) c.rows) where
   free_clear : (t l : ℕ) → t < c.sides.packed.height → l < c.sides.packed.width →
       free c d t l ≡ clear (blocked c.sides.packed c.rows d) t l
   free_clear t l high near =
@@ -126,7 +126,7 @@ module _ (c : Content) (d : Draft) (solid : All (λ r. empty_row r ≡ false) c.
       same_first (clear (blocked c.sides.packed c.rows d)) (free c d) c.sides.packed.height c.sides.packed.width
       (λ t l high near. sym (free_clear t l high near))
 
-solid_rows : (s : SheetSides) (rows : List Row) → sound_rows s rows ≡ true → All (λ r. empty_row r ≡ false) rows
+solid_rows : (s : SheetSides) (rows : List Row) → sound_rows s rows ≡ true → AllByRecursion (λ r. empty_row r ≡ false) rows
 solid_rows s rows h = All-weaker _ _ (λ r ok. (faultless s r ok).sides) rows (each_sound s rows h)
 
 -- what the search over the blocked boxes of a sound sheet answers

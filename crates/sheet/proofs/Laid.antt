@@ -1,6 +1,6 @@
 -- What a granted call tells of its checks, and what it leaves.
 use Rattle.std.proofs.Common.{◌≡◌, ℕ, ◌+◌, ◌<◌, ◌≤◌, Bool, true, false, cond, not, List, [], ◌∷◌, ◌++◌, length, set, IfErr, Ok, Err, Result, sym, refl, ap, ◌∙◌, arith}
-use Rattle.std.specs.List.{remove, AllByRecursion as All}
+use Rattle.std.specs.List.{remove, AllByRecursion}
 use Rattle.std.proofs.lemmas.List.{length-take-le, take_more_set}
 use Rattle.std.proofs.lemmas.Bool.{and_parts, and_from, leb-false, cond-false, not-false}
 use Rattle.refusal.specs.declared.Refusal.{Refusal}
@@ -17,7 +17,7 @@ ok_step true f x u e = let z : ◌≡◌ {A = ℕ} 0 1 = cc in absurd (omega ari
 ok_step false f x u e = (refl, e)
 
 -- where a call is granted, none of its checks fails
-pub passed : (cs : List Check) (u : Unit) → Ok u ≡ verdict cs → All (λ c. c.fails ≡ false) cs
+pub passed : (cs : List Check) (u : Unit) → Ok u ≡ verdict cs → AllByRecursion (λ c. c.fails ≡ false) cs
 passed [] u e = tt
 passed (c ∷ cs) u e = let s = ok_step c.fails c.with (verdict cs) u e in (s.0, passed cs u s.1)
 

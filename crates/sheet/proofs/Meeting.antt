@@ -1,6 +1,6 @@
 -- Claims that share a sample are those that the test finds.
 use Rattle.std.proofs.Common.{◌≡◌, ℕ, ◌<◌, ◌≤◌, max, Bool, true, false, ◌&&◌, ◌||◌, ltb, ◌⊎◌, List, [], ◌∷◌, map, Some, None, Option, refl, inl, inr, arith}
-use Rattle.std.specs.List.{AllByRecursion as All}
+use Rattle.std.specs.List.{AllByRecursion}
 use Rattle.std.proofs.lemmas.Bool.{and_parts, and_from, or_cases, or_left, or_right, both_ways, ltb-true, lt-ltb}
 use Rattle.geometry.specs.declared.bounds.Bounds.{Bounds}
 use Rattle.geometry.specs.Boxes.{lies, has, covers}
@@ -111,7 +111,7 @@ only : (b : Bool) → (b || false) ≡ true → b ≡ true
 only true h = refl
 only false h = h
 
-one_shared : (a : Bounds) (d : List Bounds) → Solid a → All Solid d → any (overlap a) d ≡ true → Meet (a ∷ []) d
+one_shared : (a : Bounds) (d : List Bounds) → Solid a → AllByRecursion Solid d → any (overlap a) d ≡ true → Meet (a ∷ []) d
 one_shared a [] sa sd h = absurd (both_ways false refl h)
 one_shared a (b ∷ d) sa (sb, sd) h = go (or_cases (overlap a b) (any (overlap a) d) h) (one_shared a d sa sd)
   where
@@ -123,7 +123,7 @@ one_shared a (b ∷ d) sa (sb, sd) h = go (or_cases (overlap a b) (any (overlap 
         let m : Meet (a ∷ []) d = ih later in
         record { y = m.y; x = m.x; first = m.first; second = or_right (has b m.y m.x) (covers d m.y m.x) m.second }
 
-meets_shared : (c d : List Bounds) → All Solid c → All Solid d → meets c d ≡ true → Meet c d
+meets_shared : (c d : List Bounds) → AllByRecursion Solid c → AllByRecursion Solid d → meets c d ≡ true → Meet c d
 meets_shared [] d sc sd h = absurd (both_ways false refl h)
 meets_shared (a ∷ c) d (sa, sc) sd h = go (or_cases (any (overlap a) d) (meets c d) h) (meets_shared c d sc sd)
   where
@@ -135,13 +135,13 @@ meets_shared (a ∷ c) d (sa, sc) sd h = go (or_cases (any (overlap a) d) (meets
         let m : Meet c d = ih later in
         record { y = m.y; x = m.x; first = or_right (has a m.y m.x) (covers c m.y m.x) m.first; second = m.second }
 
-pub solid_claim : (r : Row) → empty_row r ≡ false → All Solid (claim r)
+pub solid_claim : (r : Row) → empty_row r ≡ false → AllByRecursion Solid (claim r)
 solid_claim r h = go r.bands
   where
     sides : Sided r
     sides = sided r h
 
-    go : (bands : Option GuardBands) → All Solid (map (widened r.body) (reaches bands))
+    go : (bands : Option GuardBands) → AllByRecursion Solid (map (widened r.body) (reaches bands))
     go None = (record { high = omega (arith, sides.high); wide = omega (arith, sides.wide) }, tt)
     go (Some x) = (record { high = omega (arith, sides.high); wide = omega (arith, sides.wide) }, tt)
 

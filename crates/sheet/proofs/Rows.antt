@@ -1,6 +1,6 @@
 -- Lists of rows under the edits.
 use Rattle.std.proofs.Common.{◌≡◌, ℕ, zero, suc, Bool, true, false, not, ◌&&◌, ◌||◌, List, [], ◌∷◌, ◌++◌, sym, refl, ap, ◌∙◌, ap₂, arith}
-use Rattle.std.specs.List.{remove, AllByRecursion as All}
+use Rattle.std.specs.List.{remove, AllByRecursion}
 use Rattle.std.proofs.lemmas.Bool.{and_parts, and_from, or_parts, or_from, not-true, not_from_false}
 use Rattle.std.proofs.lemmas.Bool.Decides.{nat_tests}
 use Rattle.geometry.specs.declared.bounds.Bounds.{Bounds}
@@ -128,6 +128,6 @@ sound_from s r f =
     f.packed
 
 -- every row of a sound list is sound
-pub each_sound : (s : SheetSides) (rows : List Row) → sound_rows s rows ≡ true → All (λ r. sound_row s r ≡ true) rows
+pub each_sound : (s : SheetSides) (rows : List Row) → sound_rows s rows ≡ true → AllByRecursion (λ r. sound_row s r ≡ true) rows
 each_sound s [] h = tt
 each_sound s (r ∷ rows) h = let (here, clear, rest) = head_parts s r rows h in (here, each_sound s rows rest)

@@ -1,6 +1,6 @@
 -- What holds of claims, bodies and free spots, in words.
 use Rattle.std.specs.Prelude.{◌≡◌, ℕ, ◌+◌, ◌<◌, ◌≤◌, true, false, List, length, Some, Ok, Err, Result, ◌≢◌}
-use Rattle.std.specs.List.{AllByRecursion as All, slice_get}
+use Rattle.std.specs.List.{AllByRecursion, slice_get}
 use Rattle.refusal.specs.declared.Refusal.{Refusal}
 use Rattle.refusal.specs.declared.Refusal.TheVariants.{NoFreeSpot}
 use Rattle.geometry.specs.declared.bounds.Bounds.{Bounds}
@@ -59,7 +59,7 @@ pub record Shaped (s : SheetSides) (r : Row) : Type 0 where
 -- What holds of every sheet, for readers who do not know claims too.
 pub record Facts (c : Content) : Type 0 where
   pub few : length c.rows ≤ 255
-  pub shaped : All (Shaped c.sides) c.rows
+  pub shaped : AllByRecursion (Shaped c.sides) c.rows
   pub once : ClaimedOnce c.rows
   pub bodies : Bodies c.sides.packed c.rows
 

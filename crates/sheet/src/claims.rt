@@ -1,6 +1,6 @@
 // Claims in code: the boxes of a row, and whether they lie inside and apart.
 ghost use Rattle.std.specs.Prelude.{◌≡◌};
-ghost use Rattle.std.specs.List.{AllByRecursion as All};
+ghost use Rattle.std.specs.List.{AllByRecursion};
 ghost use Rattle.sheet.specs.Blocked.{Small};
 ghost use Rattle.sheet.specs.Claims.{reaches, widened, claim, fits, claim_inside, overlap, any, meets, meets_any};
 
@@ -42,7 +42,7 @@ fn widened(body: Body, reach: FourSides) -> Bounds
 // The boxes of the packed picture that belong to a row.
 pub fn claim(row: &Row) -> [Bounds; PARTS]
     ensures value { result ≡ claim row.now }
-    ensures small { All Small result }
+    ensures small { AllByRecursion Small result }
 {
     let [reach] = reaches(row.bands);
     [widened(row.body, reach)]

@@ -1,6 +1,6 @@
 // Which row serves a projected place, and where in its body.
 ghost use Rattle.std.specs.Prelude.{◌≡◌, ◌+◌, ◌≤◌, true, length, Ok};
-ghost use Rattle.std.specs.List.{AllByRecursion as All, slice_get};
+ghost use Rattle.std.specs.List.{AllByRecursion, slice_get};
 ghost use Rattle.geometry.specs.Boxes.{lies};
 ghost use Rattle.sheet.specs.Serving.{covers_place, served_place, located_in, serving, Sided};
 ghost use Rattle.sheet.specs.Words.{Shaped};
@@ -54,7 +54,7 @@ pub(crate) fn locate(
     number: usize,
     place: PackedPlace,
 ) -> Result<Position, Refusal>
-    requires { All (Shaped sides) rows.now }
+    requires { AllByRecursion (Shaped sides) rows.now }
     ensures { result ≡ located_in (slice_get rows.now number) place }
 {
     if number >= rows.len() {
@@ -67,7 +67,7 @@ pub(crate) fn locate(
 
 // The first of the rows that covers a place, and the place in its body.
 pub(crate) fn serve_from(sides: SheetSides, rows: &[Row], place: Place) -> Result<Served, Refusal>
-    requires shaped { All (Shaped sides) rows.now }
+    requires shaped { AllByRecursion (Shaped sides) rows.now }
     requires few { length rows.now ≤ 255 }
     ensures { result ≡ serving 0 rows.now place }
 {

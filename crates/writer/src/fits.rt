@@ -1,5 +1,5 @@
 // The numbers of a sheet fit the fields of its box. These calls do nothing: whoever calls them knows it afterwards.
-ghost use Rattle.std.specs.List.{AllByRecursion as All};
+ghost use Rattle.std.specs.List.{AllByRecursion};
 ghost use Rattle.rwpk.specs.Laws.{Fits, SidesFit, RowFits};
 
 use sheet::{Row, SheetSides};
@@ -45,7 +45,7 @@ fn row_fits(row: &Row)
 }
 
 pub(crate) fn rows_fit(rows: &[Row])
-    ensures { All RowFits rows.now }
+    ensures { AllByRecursion RowFits rows.now }
 {
     for row in rows {
         row_fits(row);

@@ -1,5 +1,5 @@
 use Rattle.std.proofs.Common.{subst}
-use Rattle.std.specs.List.{AllByRecursion as All}
+use Rattle.std.specs.List.{AllByRecursion}
 use Rattle.rwpk.proofs.BoxThere.{box_there}
 use Rattle.rwpk.specs.Laws.{SidesFit, RowFits}
 use Rattle.sheet.specs.Contents.{content}
@@ -15,6 +15,6 @@ returns-clause-back c =
     let j = c.args.self.now in
     let s = j.sheet.now in
     let sides = subst (λ x. SidesFit x) c.sides.ensures c.sides_fit.ensures in
-    let rows = subst (λ x. All RowFits x) c.rows.ensures c.rows_fit.ensures in
+    let rows = subst (λ x. AllByRecursion RowFits x) c.rows.ensures c.rows_fit.ensures in
     let few = c.facts.ensures.few in
     λ out r is. reads_back (content s) j.done out r is (λ some. box_there (content s) (has_box s sides rows few some))
