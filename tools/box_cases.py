@@ -7,7 +7,7 @@ puts into that folder what the program `box_cases` reads and what it must print:
 and with every bit flipped, and boxes with guard bands, all turns and up to 255 rows, with damaged forms of them; and
 two boxes whose writing jobs meet each refusal.
 
-    python3 tools/box_cases.py --run target/bin/rowlist [SEED [COUNT]]
+    python3 tools/box_cases.py --run crates/rowlist/out/rowlist [SEED [COUNT]]
 
 runs `rowlist` on these and on COUNT more random boxes, and stops at the first difference. Written from docs/FORMAT.md
 alone, by another road than the library: fields are strings of bits, a fault is raised where it is met, and two claims

@@ -11,28 +11,28 @@ use rwpk::{Fault, load};
 use sheet::Sheet;
 use std::alloc::{AllocError, Global};
 
-fn answer_of(res: Result<(), Refusal>) -> Answer
-    ensures { result ≡ answered res }
+fn answer_of(outcome: Result<(), Refusal>) -> Answer
+    ensures { result ≡ answered outcome }
 {
-    match res {
+    match outcome {
         Ok(()) => Answer::Granted,
         Err(refusal) => Answer::Refused(refusal),
     }
 }
 
-fn spot_answer_of(res: Result<Spot, Refusal>) -> Answer
-    ensures { result ≡ spot_answered res }
+fn spot_answer_of(outcome: Result<Spot, Refusal>) -> Answer
+    ensures { result ≡ spot_answered outcome }
 {
-    match res {
+    match outcome {
         Ok(spot) => Answer::Placed(spot),
         Err(refusal) => Answer::Refused(refusal),
     }
 }
 
-fn box_answer_of(res: Result<(), Fault>) -> Answer
-    ensures { result ≡ box_answered res }
+fn box_answer_of(outcome: Result<(), Fault>) -> Answer
+    ensures { result ≡ box_answered outcome }
 {
-    match res {
+    match outcome {
         Ok(()) => Answer::Granted,
         Err(fault) => Answer::RefusedAt(fault),
     }
