@@ -1,5 +1,5 @@
 -- The first free spot in reading order.
-use Rattle.std.specs.Prelude.{◌≡◌, ℕ, ◌<◌, Bool, true, cond, not, ltb, ◌⊎◌, List, Some, None, Option, ◌≢◌, nat_lt}
+use Rattle.std.specs.Prelude.{◌≡◌, ℕ, ◌<◌, Bool, true, cond, not, ◌⊎◌, List, Some, None, Option, ◌≢◌, nat_lt}
 use Rattle.geometry.specs.declared.bounds.Bounds.{Bounds}
 use Rattle.geometry.specs.declared.search.Spot.{Spot}
 use Rattle.geometry.specs.Boxes.{covers}
@@ -15,7 +15,7 @@ first_left free lefts top = least lefts (λ left. free top left)
 
 -- the highest top with a free spot, or the number of tops where there is none
 abbrev pub first_top : (ℕ → ℕ → Bool) → ℕ → ℕ → ℕ
-first_top free tops lefts = least tops (λ top. ltb (first_left free lefts top) lefts)
+first_top free tops lefts = least tops (λ top. nat_lt (first_left free lefts top) lefts)
 
 -- the first free spot among these tops and lefts, if any
 abbrev pub first_spot : (ℕ → ℕ → Bool) → ℕ → ℕ → Option Spot
