@@ -5,8 +5,8 @@ const BITS: [u8; 8] = [128, 64, 32, 16, 8, 4, 2, 1];
 
 // Flips one bit of one byte, if there are such a byte and such a bit.
 pub(crate) fn flip(input: &mut [u8], place: usize, bit: usize) {
-    if place < input.len() && bit < 8 {
-        input[place] = input[place] ^ BITS[bit];
+    if let (Some(byte), Some(mask)) = (input.get_mut(place), BITS.get(bit)) {
+        *byte ^= *mask;
     }
 }
 
@@ -15,11 +15,7 @@ pub(crate) fn mend(input: &mut [u8]) {
     let Ok(length) = u32::try_from(input.len()) else {
         return;
     };
-    let [a, b, c, d] = length.to_be_bytes();
-    if input.len() >= 4 {
-        input[0] = a;
-        input[1] = b;
-        input[2] = c;
-        input[3] = d;
+    if let Some(size) = input.first_chunk_mut::<4>() {
+        *size = length.to_be_bytes();
     }
 }

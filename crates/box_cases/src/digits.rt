@@ -1,33 +1,26 @@
 // Bytes from hexadecimal digits.
-use anyhow::anyhow;
-use std::alloc::Global;
+ghost use Rattle.std.specs.Prelude.{◌<◌, IfOk};
 
-fn value(digit: u8) -> Option<u8> {
+use anyhow::anyhow;
+
+fn value(digit: u8) -> anyhow::Result<u8>
+    ensures { IfOk result (λ n. n < 16) }
+{
     match digit {
-        b'0'..=b'9' => Some(digit - b'0'),
-        b'a'..=b'f' => Some(digit - b'a' + 10),
-        _ => None,
+        b'0'..=b'9' => Ok(digit - b'0'),
+        b'a'..=b'f' => Ok(digit - b'a' + 10),
+        _ => Err(anyhow!("not a hexadecimal digit")),
     }
 }
 
 // Two digits to a byte.
 pub(crate) fn bytes_of(rt: &HostRuntime, digits: &str) -> anyhow::Result<Vec<u8>> {
     let mut bytes = Vec::new(rt.alloc());
-    let mut first = None;
-    for digit in digits.as_bytes() {
-        let Some(low) = value(*digit) else {
-            return Err(anyhow!("not a hexadecimal digit"));
+    for pair in digits.as_bytes().chunks(2) {
+        let [high, low] = pair else {
+            return Err(anyhow!("an odd number of digits"));
         };
-        match first {
-            None => first = Some(low),
-            Some(high) => {
-                bytes.push(high % 16 * 16 + low % 16)?;
-                first = None;
-            }
-        }
-    }
-    if first.is_some() {
-        return Err(anyhow!("an odd number of digits"));
+        bytes.push(value(*high)? * 16 + value(*low)?)?;
     }
     Ok(bytes)
 }

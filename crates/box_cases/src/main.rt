@@ -6,45 +6,40 @@ mod digits;
 mod jobs;
 mod writing;
 
-use anyhow::anyhow;
+use anyhow::{Context, anyhow};
 use damage::{flip, mend};
 use digits::bytes_of;
 use jobs::show_jobs;
-use listing::list_box;
+use listing::{LONGEST, list_box};
 use rwpk::load;
 use sheet::Sheet;
 use writing::write_box;
-
-// No listing is longer than this.
-const LONGEST: usize = 65536;
 
 // No box is longer than this: 26 bytes, and 255 rows of 32.
 const LONGEST_BOX: usize = 8186;
 
 // Prints the listing of the input. A box that is granted is written back by a job, and has to be the input again.
 fn show(rt: &HostRuntime, input: &[u8]) -> anyhow::Result<()> {
+    // A buffer to lend: the listing goes to its start, and the call answers how long it is.
     let mut lines = [0u8; LONGEST];
-    match list_box(input, &mut lines) {
-        Ok(length) => rt.write_all(&lines[0..length])?,
-        Err(_) => return Err(anyhow!("a listing is too long")),
-    }
+    let length = list_box(input, &mut lines).context("a listing is too long")?;
+    rt.write_all(&lines[0..length])?;
     let mut sheet = Sheet::new();
+    // No `?`, since a refused box is a case like others: its listing has said why.
     if load(&mut sheet, input).is_err() {
         return Ok(());
     }
     let mut out = [0u8; LONGEST_BOX];
+    // By hand, since a `Result` can have no `Display` of ours.
     match write_box(&sheet, &mut out) {
         Ok(size) if size <= out.len() && &out[0..size] == input => println!(rt; "written {size}")?,
         Ok(size) => println!(rt; "written {size}, not alike")?,
-        Err(refusal) => {
-            let number = refusal.number();
-            println!(rt; "not written: {number}")?;
-        }
+        Err(refusal) => println!(rt; "not written: {}", refusal.number())?,
     }
     Ok(())
 }
 
-// Every cut of the input, with the size as it was, and mended.
+// Every cut of the input, with the size as it was, and mended. A cut is its length, so the loop is over lengths.
 fn show_cuts(rt: &HostRuntime, input: &[u8]) -> anyhow::Result<()> {
     for length in 0..input.len() {
         show(rt, &input[0..length])?;
@@ -56,7 +51,7 @@ fn show_cuts(rt: &HostRuntime, input: &[u8]) -> anyhow::Result<()> {
     Ok(())
 }
 
-// The input with each of its bits flipped in turn.
+// The input with each of its bits flipped in turn, by place, since the whole input is shown at each.
 fn show_flips(rt: &HostRuntime, input: &mut [u8]) -> anyhow::Result<()> {
     for place in 0..input.len() {
         for bit in 0..8 {
@@ -71,13 +66,12 @@ fn show_flips(rt: &HostRuntime, input: &mut [u8]) -> anyhow::Result<()> {
 // The jobs of a box that is granted.
 fn show_all_jobs(rt: &HostRuntime, input: &[u8]) -> anyhow::Result<()> {
     let mut sheet = Sheet::new();
-    if load(&mut sheet, input).is_err() {
-        return Err(anyhow!("a box is refused"));
-    }
+    load(&mut sheet, input).context("a box is refused")?;
     let mut out = [0u8; LONGEST_BOX];
     show_jobs(rt, &sheet, input, &mut out)
 }
 
+// A word chooses what to show. A table of closures would be no plainer than the four arms.
 fn run_line(rt: &HostRuntime, line: &str) -> anyhow::Result<()> {
     let mut words = line.split_whitespace();
     let (Some(call), Some(digits)) = (words.next(), words.next()) else {
@@ -93,14 +87,9 @@ fn run_line(rt: &HostRuntime, line: &str) -> anyhow::Result<()> {
     }
 }
 
-fn run(rt: &HostRuntime) -> anyhow::Result<()> {
+fn main(rt: HostRuntime) -> anyhow::Result<()> {
     for line in rt.lines(rt.alloc()) {
-        let text = line?;
-        run_line(rt, text.as_str())?;
+        run_line(&rt, line?.as_str())?;
     }
     Ok(())
-}
-
-fn main(rt: HostRuntime) -> anyhow::Result<()> {
-    run(&rt)
 }

@@ -1,6 +1,6 @@
 // Two films of one hall: last year's table as the box that came with it, and this year's as the edits that make it.
 use edits::Edit;
-use geometry::{Body, Place, ProjectedRectangle, Sides};
+use geometry::{Body, Place, ProjectedRectangle, Rectangle, Sides};
 use sheet::{Draft, FourSides, GuardBands, PackedSides, Row, SheetSides};
 
 // The hall is 26 by 12 samples, and last year's film 16 by 12. The left 12 columns were shrunk to 8; the next 12 were
@@ -39,17 +39,8 @@ pub(crate) const MARKS: [Place; 5] = [
     Place { x: 26, y: 0 },
 ];
 
-const fn frame(width: u32, height: u32, top: u32, left: u32) -> ProjectedRectangle {
-    ProjectedRectangle {
-        width,
-        height,
-        top,
-        left,
-    }
-}
-
-const fn body(width: u16, height: u16, top: u16, left: u16) -> Body {
-    Body {
+fn rectangle<T>(width: T, height: T, top: T, left: T) -> Rectangle<T> {
+    Rectangle {
         width,
         height,
         top,
@@ -102,21 +93,21 @@ pub(crate) fn this_years_edits(cut_box: &[u8]) -> [Edit<'_>; 10] {
         },
     };
     let banded = Row {
-        projected: frame(12, 6, 0, 12),
+        projected: rectangle(12, 6, 0, 12),
         turn: 3,
-        body: body(12, 6, 1, 13),
+        body: rectangle(12, 6, 1, 13),
         bands: Some(narrow_bands()),
     };
     [
         Edit::Load(cut_box),
         Edit::Open(sides),
-        Edit::Lay(piece(frame(12, 12, 0, 0), 0, body(12, 12, 0, 0))),
+        Edit::Lay(piece(rectangle(12, 12, 0, 0), 0, rectangle(12, 12, 0, 0))),
         Edit::Lay(banded),
-        Edit::Lay(piece(frame(6, 6, 6, 12), 1, body(4, 4, 9, 13))),
-        Edit::Lay(piece(frame(6, 6, 6, 18), 0, body(6, 6, 7, 20))),
-        Edit::Lay(piece(frame(12, 6, 6, 12), 6, body(3, 6, 0, 27))),
+        Edit::Lay(piece(rectangle(6, 6, 6, 12), 1, rectangle(4, 4, 9, 13))),
+        Edit::Lay(piece(rectangle(6, 6, 6, 18), 0, rectangle(6, 6, 7, 20))),
+        Edit::Lay(piece(rectangle(12, 6, 6, 12), 6, rectangle(3, 6, 0, 27))),
         Edit::Lift(2),
-        Edit::Place(title(frame(4, 2, 2, 2), 4, 2)),
-        Edit::Place(title(frame(24, 12, 0, 0), 20, 8)),
+        Edit::Place(title(rectangle(4, 2, 2, 2), 4, 2)),
+        Edit::Place(title(rectangle(24, 12, 0, 0), 20, 8)),
     ]
 }

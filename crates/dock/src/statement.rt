@@ -1,23 +1,25 @@
 // The lines of the statement.
 use crate::tally::Count;
-use edits::Answer;
+use edits::{Answer, EditRefused};
 use geometry::{PackedPlace, Place, ProjectedPlace};
 use picture::{Mark, Store};
 use refusal::Refusal;
 use sheet::{Served, Sheet};
 use std::io;
 
+// By hand, since a `Result` can have no `Display` of ours.
 pub(crate) fn print_answer(rt: &HostRuntime, answer: Answer) -> io::Result<()> {
     match answer {
-        Answer::Granted => println!(rt; "granted"),
-        Answer::Placed(spot) => println!(rt; "placed {} {}", spot.top, spot.left),
-        Answer::Refused(refusal) => println!(rt; "refused {}", refusal.number()),
-        Answer::RefusedAt(fault) => {
+        Ok(None) => println!(rt; "granted"),
+        Ok(Some(spot)) => println!(rt; "placed {} {}", spot.top, spot.left),
+        Err(EditRefused::Plain(refusal)) => println!(rt; "refused {}", refusal.number()),
+        Err(EditRefused::InBox(fault)) => {
             println!(rt; "refused {} at {}", fault.refusal.number(), fault.place)
         }
     }
 }
 
+// By hand, since a `Result` can have no `Display` of ours.
 pub(crate) fn print_moved(
     rt: &HostRuntime,
     call: &str,
@@ -42,13 +44,10 @@ pub(crate) fn print_sheet(rt: &HostRuntime, name: &str, sheet: &Sheet) -> io::Re
 }
 
 pub(crate) fn print_count(rt: &HostRuntime, name: &str, count: Count) -> io::Result<()> {
-    println!(rt;
-        "{name}: {} samples, {} returned",
-        count.samples, count.returned
-    )
+    println!(rt; "{name}: {count}")
 }
 
-// Where a mark of the projected picture lies this year.
+// Where a mark of the projected picture lies this year. By hand, since a `Result` can have no `Display` of ours.
 pub(crate) fn print_mark(rt: &HostRuntime, sheet: &Sheet, mark: Place) -> io::Result<()> {
     let Place { x, y } = mark;
     match sheet.serve(ProjectedPlace(mark)) {
@@ -65,19 +64,19 @@ pub(crate) fn print_mark(rt: &HostRuntime, sheet: &Sheet, mark: Place) -> io::Re
 // The sum of a picture's samples, each times its number in reading order, counted from 1.
 pub(crate) fn weighted_sum<S: Store<Sample = u16>>(store: &S) -> u64 {
     let mut sum = 0u64;
-    let mut weight = 0u64;
     for y in 0..store.height() {
         for x in 0..store.width() {
-            weight = weight.wrapping_add(1);
+            let before = u64::from(y) * u64::from(store.width()) + u64::from(x);
             if let Ok(sample) = store.read(Place { x, y }) {
-                sum = sum.wrapping_add(weight.wrapping_mul(u64::from(sample)));
+                sum = sum.wrapping_add(before.wrapping_add(1).wrapping_mul(u64::from(sample)));
             }
         }
     }
     sum
 }
 
-// A letter for each row: large for its body, small for its bands, and a dot for nobody.
+// A letter for each row: large for its body, small for its bands, and a dot for nobody. By hand, since a type of another crate
+// can have no `Display` here.
 fn letter(mark: Mark) -> char {
     match mark {
         Mark::Nobody => '.',

@@ -1,49 +1,33 @@
-// The stores of the task, of three makes, and the samples that they begin with.
-use crate::hall::{HALL, THIS_YEARS_FILM};
+// The samples that the stores of the task begin with, and one of the stores.
+use crate::hall::HALL;
 use geometry::Sides;
-use picture::{Frame, Rows, Tiles, Turned, Window};
+use picture::{Frame, Rows, Turned, Window};
+use refusal::Refusal;
 
-// Numbers from `first` on, so that no two samples of a picture are alike.
+// Numbers from `first` on, so that no two samples of a picture are alike. The program `piles` has the like: a crate to share one
+// loop would be no plainer.
 pub(crate) fn numbered<const N: usize>(first: u16) -> [u16; N] {
-    let mut run = [0u16; N];
-    let mut next = first;
-    for sample in run.iter_mut() {
-        *sample = next;
-        next = next.wrapping_add(1);
+    let mut run = [0; N];
+    for (sample, number) in run.iter_mut().zip(first..=u16::MAX) {
+        *sample = number;
     }
     run
 }
 
-// Rows of these sides. Were they refused, the picture would be empty, and the calls that take it would answer 21.
-pub(crate) fn rows_of(run: &mut [u16], sides: Sides) -> Rows<'_, u16> {
-    let mut rows = Rows::new(run);
-    let _ = rows.size(sides);
-    rows
-}
-
-// This year's film, in tiles.
-pub(crate) fn tiles_of_film(run: &mut [u16]) -> Tiles<'_, u16> {
-    let mut tiles = Tiles::new(run);
-    let _ = tiles.size(THIS_YEARS_FILM);
-    tiles
-}
-
-// The hall as a window over a turned picture of 15 by 28.
-pub(crate) fn pile_of_hall(run: &mut [u16]) -> Window<Turned<Rows<'_, u16>>> {
-    let mut below = Rows::new(run);
-    let _ = below.size(Sides {
+// The hall as a window over a turned picture of 15 by 28. Other programs make such piles too: a crate to share three lines would
+// be no plainer.
+pub(crate) fn pile_of_hall(run: &mut [u16]) -> Result<Window<Turned<Rows<'_, u16>>>, Refusal> {
+    let sides = Sides {
         width: 15,
         height: 28,
-    });
-    let mut turned = Turned::new(below);
-    let _ = turned.set_code(5);
-    Window::new(
-        turned,
-        Frame {
-            left: 1,
-            top: 2,
-            width: HALL.width,
-            height: HALL.height,
-        },
-    )
+    };
+    let mut turned = Turned::new(Rows::of_sides(run, sides)?);
+    turned.set_code(5)?;
+    let frame = Frame {
+        left: 1,
+        top: 2,
+        width: HALL.width,
+        height: HALL.height,
+    };
+    Ok(Window::new(turned, frame))
 }

@@ -1,19 +1,15 @@
 // What came back after packing and unpacking, counted place by place.
-use geometry::{PackedPlace, Place, ProjectedPlace, Sides, Turn};
+use geometry::{Bounds, PackedPlace, Place, ProjectedPlace, Sides, Turn};
 use picture::Store;
 use sheet::{Row, Sheet};
+use std::fmt;
 
 // How many samples there are of a kind, and how many of them returned.
-#[derive(Clone, Copy)]
+#[derive(Clone, Copy, Default)]
 pub(crate) struct Count {
-    pub(crate) samples: u32,
-    pub(crate) returned: u32,
+    samples: u32,
+    returned: u32,
 }
-
-const NONE: Count = Count {
-    samples: 0,
-    returned: 0,
-};
 
 impl Count {
     fn add(&mut self, returned: bool) {
@@ -24,17 +20,18 @@ impl Count {
     }
 }
 
+impl fmt::Display for Count {
+    fn fmt<W: fmt::Write>(&self, f: &mut fmt::Formatter<W>) -> fmt::Result {
+        write!(f, "{} samples, {} returned", self.samples, self.returned)
+    }
+}
+
 // The samples of a kind that the promise brings back, and the others.
-#[derive(Clone, Copy)]
+#[derive(Clone, Copy, Default)]
 pub(crate) struct Tally {
     pub(crate) promised: Count,
     pub(crate) others: Count,
 }
-
-const NOTHING: Tally = Tally {
-    promised: NONE,
-    others: NONE,
-};
 
 impl Tally {
     fn add(&mut self, promised: bool, returned: bool) {
@@ -48,24 +45,18 @@ impl Tally {
 
 // The sides of the field that the row's turn makes of its body.
 fn field_of(row: &Row) -> Option<Sides> {
-    match Turn::from_code(row.turn) {
-        Ok(turn) => Some(turn.field(row.body.sides())),
-        Err(_) => None,
-    }
+    let turn = Turn::try_from(row.turn).ok()?;
+    Some(turn.field(row.body.sides()))
 }
 
 fn is_fine(row: &Row) -> bool {
-    match field_of(row) {
-        Some(field) => field.width >= row.projected.width && field.height >= row.projected.height,
-        None => false,
-    }
+    let projected = row.projected;
+    field_of(row).is_some_and(|f| f.width >= projected.width && f.height >= projected.height)
 }
 
 fn is_coarse(row: &Row) -> bool {
-    match field_of(row) {
-        Some(field) => field.width <= row.projected.width && field.height <= row.projected.height,
-        None => false,
-    }
+    let projected = row.projected;
+    field_of(row).is_some_and(|f| f.width <= projected.width && f.height <= projected.height)
 }
 
 // Whether both stores show the same sample at a place.
@@ -78,10 +69,8 @@ fn alike<P: Store<Sample = u16>, Q: Store<Sample = u16>>(p: &P, q: &Q, place: Pl
 
 // The row that serves a projected place, if one does.
 fn server(sheet: &Sheet, place: Place) -> Option<&Row> {
-    match sheet.serve(ProjectedPlace(place)) {
-        Ok(served) => sheet.rows().get(served.row as usize),
-        Err(_) => None,
-    }
+    let served = sheet.serve(ProjectedPlace(place)).ok()?;
+    sheet.rows().get(served.row as usize)
 }
 
 // The covered samples of a projected picture: promised are those that a fine row serves.
@@ -90,7 +79,7 @@ pub(crate) fn tally_projected<P: Store<Sample = u16>, Q: Store<Sample = u16>>(
     first: &P,
     last: &Q,
 ) -> Tally {
-    let mut tally = NOTHING;
+    let mut tally = Tally::default();
     for y in 0..first.height() {
         for x in 0..first.width() {
             let place = Place { x, y };
@@ -102,21 +91,20 @@ pub(crate) fn tally_projected<P: Store<Sample = u16>, Q: Store<Sample = u16>>(
     tally
 }
 
-// Whether the row with this number serves the centre sample of a place of its body.
+// The centre sample of a place in the body of the row with this number.
+fn centre_sample(sheet: &Sheet, number: u8, place: Place) -> Option<Place> {
+    let position = sheet.position(number, PackedPlace(place)).ok()?;
+    Some(Place {
+        x: u32::try_from(position.across.whole()?).ok()?,
+        y: u32::try_from(position.down.whole()?).ok()?,
+    })
+}
+
+// Whether that row serves that sample.
 fn serves_centre(sheet: &Sheet, number: u8, place: Place) -> bool {
-    let Ok(position) = sheet.position(number, PackedPlace(place)) else {
-        return false;
-    };
-    let (Some(x), Some(y)) = (position.across.whole(), position.down.whole()) else {
-        return false;
-    };
-    let (Ok(x), Ok(y)) = (u32::try_from(x), u32::try_from(y)) else {
-        return false;
-    };
-    match sheet.serve(ProjectedPlace(Place { x, y })) {
-        Ok(served) => served.row == number,
-        Err(_) => false,
-    }
+    centre_sample(sheet, number, place)
+        .and_then(|sample| sheet.serve(ProjectedPlace(sample)).ok())
+        .is_some_and(|served| served.row == number)
 }
 
 // The samples of one body: promised are those of a coarse row that serves their centre samples.
@@ -127,15 +115,13 @@ fn tally_body<P: Store<Sample = u16>, Q: Store<Sample = u16>>(
     stores: (&P, &Q),
     tally: &mut Tally,
 ) {
-    for y in 0..row.body.height {
-        for x in 0..row.body.width {
+    let body = Bounds::from(row.body);
+    for y in body.top..body.bottom {
+        for x in body.left..body.right {
+            let place = Place { x, y };
             let inner = Place {
-                x: x as u32,
-                y: y as u32,
-            };
-            let place = Place {
-                x: row.body.left as u32 + x as u32,
-                y: row.body.top as u32 + y as u32,
+                x: x - body.left,
+                y: y - body.top,
             };
             let promised = is_coarse(row) && serves_centre(sheet, number, inner);
             tally.add(promised, alike(stores.0, stores.1, place));
@@ -149,7 +135,7 @@ pub(crate) fn tally_packed<P: Store<Sample = u16>, Q: Store<Sample = u16>>(
     first: &P,
     last: &Q,
 ) -> Tally {
-    let mut tally = NOTHING;
+    let mut tally = Tally::default();
     for (i, row) in sheet.rows().iter().enumerate() {
         if let Ok(number) = u8::try_from(i) {
             tally_body(sheet, number, row, (first, last), &mut tally);

@@ -1,7 +1,8 @@
 -- Runs of edits, one step on and at their end.
-use Rattle.std.proofs.Common.{◌≡◌, ℕ, zero, suc, ◌+◌, ◌<◌, ◌≤◌, true, not, List, [], ◌∷◌, ◌++◌, length, get_or, take, drop, Some, None, Ok, Err, Result, sym, refl, ap, ◌∙◌, append_assoc, append-nil, arith}
+use Rattle.std.proofs.Common.{◌≡◌, ℕ, zero, suc, ◌+◌, ◌<◌, ◌≤◌, true, not, List, [], ◌∷◌, ◌++◌, length, get_or, take, drop, Some, Ok, Err, Result, sym, refl, ap, ◌∙◌, append_assoc, append-nil}
 use Rattle.std.specs.List.{slice_get}
 use Rattle.std.proofs.lemmas.List.{at_drop_more, at_drop_all}
+use Rattle.std.proofs.lemmas.Option.{none-some, same_Some}
 use Rattle.std.proofs.lemmas.Bool.{and_parts, false≢true}
 use Rattle.refusal.specs.declared.Refusal.{Refusal}
 use Rattle.geometry.specs.declared.search.Spot.{Spot}
@@ -14,9 +15,8 @@ use Rattle.rwpk.specs.Fields.{◌>>=◌}
 use Rattle.rwpk.specs.Loading.{or_else}
 use Rattle.edits.specs.declared.edit.Edit.{Edit}
 use Rattle.edits.specs.declared.edit.Edit.TheVariants.{Open, Load, Lay, Place, Lift}
-use Rattle.edits.specs.declared.edit.Answer.{Answer}
 use Rattle.edits.specs.Runs.{answered, spot_answered, box_answered, answer, next, left_by, answers, Ran}
-use Rattle.edits.specs.Told.{is_refused}
+use Rattle.edits.specs.Told.{Answer, is_refused}
 
 module _ (es : List Edit) (i : ℕ) (c : Content) where
   module _ (d : Edit) (n : Content) (inside : i < length es) (left : n ≡ next c (get_or es i d)) where
@@ -49,20 +49,14 @@ module _ (es : List Edit) (i : ℕ) (c : Content) where
   pub answers_all : (out : List Answer) → length es ≤ i → out ≡ out ++ answers c (drop i es)
   answers_all out h = sym (ap (λ l. out ++ l) (at_drop_all (answers c) es i h) ∙ append-nil out)
 
-none_some : {X : Type 0} (x : X) → None ≡ Some x → ⊥
-none_some x e = let z : ◌≡◌ {A = ℕ} 0 1 = cc in omega arith
-
-some_same : {X : Type 0} (x y : X) → Some x ≡ Some y → x ≡ y
-some_same x y e = cc
-
 each_told : (c : Content) (es : List Edit) → length (answers c es) ≡ length es
 each_told c [] = refl
 each_told c (e ∷ es) = ap suc (each_told (next c e) es)
 
 told_in_turn : (c : Content) (es : List Edit) (k : ℕ) (e : Edit) → slice_get es k ≡ Some e →
     slice_get (answers c es) k ≡ Some (answer (left_by c (take k es)) e)
-told_in_turn c [] k e h = absurd (none_some e h)
-told_in_turn c (x ∷ es) zero e h = ap (λ (z : Edit). Some (answer c z)) (some_same x e h)
+told_in_turn c [] k e h = absurd (none-some e h)
+told_in_turn c (x ∷ es) zero e h = ap (λ (z : Edit). Some (answer c z)) (same_Some x e h)
 told_in_turn c (x ∷ es) (suc k) e h = told_in_turn (next c x) es k e h
 
 -- a refused call leaves the sheet

@@ -1,5 +1,5 @@
 -- Edits one after another, and what holds of every run from a new sheet.
-use Rattle.std.specs.Prelude.{◌≡◌, ℕ, true, List, [], ◌∷◌, length, take, Some, Ok, Err, Result}
+use Rattle.std.specs.Prelude.{◌≡◌, ℕ, true, List, [], ◌∷◌, length, take, Some, None, Ok, Err, Result}
 use Rattle.std.specs.List.{slice_get}
 use Rattle.refusal.specs.declared.Refusal.{Refusal}
 use Rattle.geometry.specs.declared.search.Spot.{Spot}
@@ -10,24 +10,23 @@ use Rattle.rwpk.specs.declared.fault.Fault.{Fault}
 use Rattle.rwpk.specs.Loading.{load_answer, load_next}
 use Rattle.edits.specs.declared.edit.Edit.{Edit}
 use Rattle.edits.specs.declared.edit.Edit.TheVariants.{Open, Load, Lay, Place, Lift}
-use Rattle.edits.specs.declared.edit.Answer.{Answer}
-use Rattle.edits.specs.declared.edit.Answer.TheVariants.{Granted, Placed, Refused, RefusedAt}
-use Rattle.edits.specs.Told.{is_refused}
+use Rattle.edits.specs.declared.refused.EditRefused.TheVariants.{Plain, InBox}
+use Rattle.edits.specs.Told.{Answer, is_refused}
 
 -- a call that answers only that it was granted
 abbrev pub answered : Result Unit Refusal → Answer
-answered (Ok u) = Granted
-answered (Err e) = Refused e
+answered (Ok u) = Ok None
+answered (Err e) = Err (Plain e)
 
 -- a call that answers a spot
 abbrev pub spot_answered : Result Spot Refusal → Answer
-spot_answered (Ok s) = Placed s
-spot_answered (Err e) = Refused e
+spot_answered (Ok s) = Ok (Some s)
+spot_answered (Err e) = Err (Plain e)
 
 -- a call that answers why a box is refused, and where
 abbrev pub box_answered : Result Unit Fault → Answer
-box_answered (Ok u) = Granted
-box_answered (Err f) = RefusedAt f
+box_answered (Ok u) = Ok None
+box_answered (Err f) = Err (InBox f)
 
 -- what an edit answers on a sheet
 abbrev pub answer : Content → Edit → Answer

@@ -2,7 +2,9 @@
 #![tactic(auto)]
 
 mod edit;
+mod refused;
 mod replay;
 
 pub use edit::{Answer, Edit};
+pub use refused::{EditRefused, refusal_number};
 pub use replay::{apply, replay_edits};

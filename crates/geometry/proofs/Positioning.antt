@@ -1,7 +1,7 @@
 -- The laws of the positions.
 use Rattle.std.proofs.Common.{◌≡◌, ℕ, ◌+◌, ◌-◌, ◌*◌, ◌<◌, true, refl, ap, arith}
 use Rattle.geometry.specs.declared.place.Place.{Place}
-use Rattle.geometry.specs.declared.place.ProjectedRectangle.{ProjectedRectangle}
+use Rattle.geometry.specs.declared.place.Rectangle.{Rectangle}
 use Rattle.geometry.specs.declared.place.Sides.{Sides}
 use Rattle.geometry.specs.declared.turn.Turn.{Turn}
 use Rattle.geometry.specs.Places.{inside, at, by}
@@ -18,7 +18,7 @@ ratio edge q a k distance e =
     let inner : 2 * a * edge + (2 * k + 1) * q ≡ edge * (2 * a) + q * distance = omega (arith, ap (λ (n : ℕ). n * q) e) in
     ap (λ (n : ℕ). n * (2 * a)) inner
 
-standard : (r : ProjectedRectangle) (w h x y : ℕ) → x < w → y < h → Standard r w h x y
+standard : (r : Rectangle ℕ) (w h x y : ℕ) → x < w → y < h → Standard r w h x y
 standard r w h x y xw yh =
     record {
       code_0 = formula refl refl;
@@ -39,11 +39,11 @@ standard r w h x y xw yh =
 
     formula : {code distance distance' : ℕ} →
         let p : Place = forwards (turn_of code) (by w h) (at x y) in
-        let f : Sides = field (turn_of code) (by w h) in
+        let f : Sides ℕ = field (turn_of code) (by w h) in
         2 * p.x + 1 ≡ distance → 2 * p.y + 1 ≡ distance' → Formula r code w h x y f.width distance f.height distance'
     formula e e' = record { across = ratio _ _ _ _ _ e; down = ratio _ _ _ _ _ e' }
 
-whole : (r : ProjectedRectangle) (t : Turn) (body : Sides) (p : Place) → inside body p ≡ true → Whole r t body p
+whole : (r : Rectangle ℕ) (t : Turn) (body : Sides ℕ) (p : Place) → inside body p ≡ true → Whole r t body p
 whole r t body p h =
     let i : Within (field t body) (forwards t body p) = within (field t body) (forwards t body p) (turning.there t body p h).within in
     record {

@@ -23,7 +23,7 @@ table w h x y =
   where
     line : (code : ℕ) →
         let p : Place = forwards (turn_of code) (by w h) (at x y) in
-        let f : Sides = field (turn_of code) (by w h) in
+        let f : Sides ℕ = field (turn_of code) (by w h) in
         Line code w h x y p.x p.y f.width f.height
     line code = record { place = refl; sides = refl }
 
@@ -59,7 +59,7 @@ pub mirror_twice : (b : Bool) (n x : ℕ) → x < n → mirror b n (mirror b n x
 mirror_twice true n x h = omega arith
 mirror_twice false n x h = refl
 
-pub there : (t : Turn) (body : Sides) (p : Place) → inside body p ≡ true → There t body p
+pub there : (t : Turn) (body : Sides ℕ) (p : Place) → inside body p ≡ true → There t body p
 there t body p h = go t.transposed
   where
     i : Within body p
@@ -83,7 +83,7 @@ there t body p h = go t.transposed
           back = ap₂ at (mirror_twice t.mirrored w p.x i.across) (mirror_twice t.flipped d p.y i.down);
         }
 
-pub back : (t : Turn) (body : Sides) (p : Place) → inside (field t body) p ≡ true → Back t body p
+pub back : (t : Turn) (body : Sides ℕ) (p : Place) → inside (field t body) p ≡ true → Back t body p
 back t body p h = go t.transposed (within (field t body) p h)
   where
     w : ℕ

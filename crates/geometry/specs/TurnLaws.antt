@@ -23,12 +23,12 @@ pub record Table (w h x y : ℕ) : Type 0 where
   pub line_7 : Line 7 w h x y (h - 1 - y) x h w
 
 -- a place turned lies in the field, and turned back is where it was
-pub record There (t : Turn) (body : Sides) (p : Place) : Type 0 where
+pub record There (t : Turn) (body : Sides ℕ) (p : Place) : Type 0 where
   pub within : inside (field t body) (forwards t body p) ≡ true
   pub back : backwards t body (forwards t body p) ≡ p
 
 -- a place turned back lies in the body, and turned again is where it was
-pub record Back (t : Turn) (body : Sides) (p : Place) : Type 0 where
+pub record Back (t : Turn) (body : Sides ℕ) (p : Place) : Type 0 where
   pub within : inside body (backwards t body p) ≡ true
   pub again : forwards t body (backwards t body p) ≡ p
 
@@ -37,5 +37,5 @@ pub record TurnLaws : Type 0 where
   pub table : (w h x y : ℕ) → Table w h x y
   pub decoded : (code : ℕ) → code < 8 → code_of (turn_of code) ≡ code
   pub encoded : (t : Turn) → (code_of t < 8) × (turn_of (code_of t) ≡ t)
-  pub there : (t : Turn) (body : Sides) (p : Place) → inside body p ≡ true → There t body p
-  pub back : (t : Turn) (body : Sides) (p : Place) → inside (field t body) p ≡ true → Back t body p
+  pub there : (t : Turn) (body : Sides ℕ) (p : Place) → inside body p ≡ true → There t body p
+  pub back : (t : Turn) (body : Sides ℕ) (p : Place) → inside (field t body) p ≡ true → Back t body p

@@ -34,26 +34,26 @@ abbrev pub mirror : Bool → ℕ → ℕ → ℕ
 mirror b n x = cond b (n - 1 - x) x
 
 -- the sides of the field
-abbrev pub field : Turn → Sides → Sides
+abbrev pub field : Turn → Sides ℕ → Sides ℕ
 field t body = cond t.transposed (by body.height body.width) body
 
 -- the field's place of a body's place
-abbrev pub forwards : Turn → Sides → Place → Place
+abbrev pub forwards : Turn → Sides ℕ → Place → Place
 forwards t body p =
     let x : ℕ = mirror t.mirrored body.width p.x in
     let y : ℕ = mirror t.flipped body.height p.y in
     cond t.transposed (at y x) (at x y)
 
 -- the body's place of a field's place
-abbrev pub backwards : Turn → Sides → Place → Place
+abbrev pub backwards : Turn → Sides ℕ → Place → Place
 backwards t body p =
     at (mirror t.mirrored body.width (cond t.transposed p.y p.x))
     (mirror t.flipped body.height (cond t.transposed p.x p.y))
 
 -- what turning a place answers
-abbrev pub turned : Turn → Sides → Place → Result Place Refusal
+abbrev pub turned : Turn → Sides ℕ → Place → Result Place Refusal
 turned t body p = cond (inside body p) (Ok (forwards t body p)) (Err PlaceOutside)
 
 -- what turning it back answers
-abbrev pub unturned : Turn → Sides → Place → Result Place Refusal
+abbrev pub unturned : Turn → Sides ℕ → Place → Result Place Refusal
 unturned t body p = cond (inside (field t body) p) (Ok (backwards t body p)) (Err PlaceOutside)

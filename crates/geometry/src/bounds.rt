@@ -1,11 +1,11 @@
 // Boxes of places.
 ghost use Rattle.std.specs.Prelude.{◌≡◌};
-ghost use Rattle.geometry.specs.Boxes.{has, lies};
+ghost use Rattle.geometry.specs.Boxes.{has, lies, body_box};
 
-use crate::place::Place;
+use crate::place::{Body, Place, Rectangle};
 
 // The places from `top` and `left` on, up to but without `bottom` and `right`.
-#[derive(Clone, Copy, Debug, PartialEq, Eq)]
+#[derive(Clone, Copy, Debug, Default, PartialEq, Eq)]
 pub struct Bounds {
     pub top: u32,
     pub bottom: u32,
@@ -26,5 +26,20 @@ impl Bounds {
         ensures { result ≡ lies self.now.top self.now.bottom y }
     {
         self.top <= y && y < self.bottom
+    }
+}
+
+// The places of a body. The sums are taken in 32 bits, where they cannot wrap.
+impl From<Body> for Bounds {
+    ghost from_gives = { λ body box. box ≡ body_box body };
+
+    fn from(body: Body) -> Bounds {
+        let body = Rectangle::from(body);
+        Bounds {
+            top: body.top,
+            bottom: body.top + body.height,
+            left: body.left,
+            right: body.left + body.width,
+        }
     }
 }

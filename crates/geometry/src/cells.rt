@@ -4,7 +4,7 @@ ghost use Rattle.geometry.specs.Centre.{centre, centred};
 
 use refusal::Refusal;
 
-// The same, where there is such a cell. 128 bits hold the product.
+// The sample that holds the middle of a cell that there is. 128 bits hold the product.
 fn middle(samples: u32, cells: u32, cell: u32) -> u32
     requires { cell < cells }
     ensures { result ≡ centre samples cells cell }

@@ -1,10 +1,11 @@
 // Where the middle of a body's sample lies in the projected picture, as exact fractions.
-ghost use Rattle.std.specs.Prelude.{◌≡◌};
-ghost use Rattle.geometry.specs.Positions.{whole_part, coordinate, located};
+ghost use Rattle.std.specs.Prelude.{◌≡◌, Some};
+ghost use Rattle.geometry.specs.Positions.{whole_part, coordinate, located, fraction_text};
 
 use crate::place::{Body, PackedPlace, ProjectedRectangle};
 use crate::turn::Turn;
 use refusal::Refusal;
+use std::fmt;
 
 // A numerator over a denominator, not reduced.
 #[derive(Clone, Copy, Debug, PartialEq, Eq)]
@@ -38,6 +39,15 @@ impl Fraction {
         ensures { result ≡ whole_part self }
     {
         self.numerator.checked_div(self.denominator)
+    }
+}
+
+// As 12/4.
+impl fmt::Display for Fraction {
+    ghost output = { λ f. Some (fraction_text f) };
+
+    fn fmt<W: fmt::Write>(&self, f: &mut fmt::Formatter<W>) -> fmt::Result {
+        write!(f, "{}/{}", self.numerator, self.denominator)
     }
 }
 

@@ -1,5 +1,5 @@
 // The eight turns that lay a body onto its field.
-ghost use Rattle.std.specs.Prelude.{◌≡◌, ◌<◌};
+ghost use Rattle.std.specs.Prelude.{◌≡◌};
 ghost use Rattle.geometry.specs.Turns.{mirror, from_code, code_of, field, turned, unturned};
 
 use crate::place::{Place, Sides};
@@ -14,19 +14,24 @@ pub struct Turn {
     pub transposed: bool,
 }
 
-// Counted from the other end, if `on`.
-fn mirrored_if(on: bool, side: u32, x: u32) -> u32
-    requires { x < side }
+// Counted from the other end of a side, if `on`. What lies past the end is mirrored to 0.
+pub fn mirrored_if(on: bool, side: u32, x: u32) -> u32
     ensures { result ≡ mirror on side x }
 {
-    if on { side - 1 - x } else { x }
+    if on {
+        side.saturating_sub(1).saturating_sub(x)
+    } else {
+        x
+    }
 }
 
-impl Turn {
-    // The turn of a code from 0 to 7.
-    pub fn from_code(code: u8) -> Result<Turn, Refusal>
-        ensures { result ≡ from_code code }
-    {
+// The turn of a code from 0 to 7.
+impl TryFrom<u8> for Turn {
+    type Error = Refusal;
+
+    ghost try_from_gives = { λ code turn. turn ≡ from_code code };
+
+    fn try_from(code: u8) -> Result<Turn, Refusal> {
         let (mirrored, flipped, transposed) = match code {
             0 => (false, false, false),
             1 => (true, false, false),
@@ -44,24 +49,28 @@ impl Turn {
             transposed,
         })
     }
+}
 
-    // The code that gives this turn.
-    pub fn code(self) -> u8
-        ensures { result ≡ code_of self }
-    {
-        let within_four = match (self.mirrored, self.flipped) {
+// The code that gives a turn.
+impl From<Turn> for u8 {
+    ghost from_gives = { λ turn code. code ≡ code_of turn };
+
+    fn from(turn: Turn) -> u8 {
+        let within_four = match (turn.mirrored, turn.flipped) {
             (false, false) => 0,
             (true, false) => 1,
             (true, true) => 2,
             (false, true) => 3,
         };
-        if self.transposed {
+        if turn.transposed {
             within_four + 4
         } else {
             within_four
         }
     }
+}
 
+impl Turn {
     // The sides of the field that a body with these sides makes.
     pub fn field(self, body: Sides) -> Sides
         ensures { result ≡ field self body }

@@ -4,6 +4,7 @@ use geometry::{Bounds, Spot, first_free};
 
 const SIDE: u32 = 65535;
 
+// By hand, since an `Option` can have no `Display` of ours.
 fn print_spot(rt: &HostRuntime, found: Option<Spot>) -> anyhow::Result<()> {
     match found {
         Some(Spot { top, left }) => println!(rt; "spot {top} {left}")?,
@@ -12,7 +13,7 @@ fn print_spot(rt: &HostRuntime, found: Option<Spot>) -> anyhow::Result<()> {
     Ok(())
 }
 
-// The numbers of a line.
+// The numbers of a line. Other programs read such lines too: a crate to share one loop would be no plainer.
 fn numbers(rt: &HostRuntime, line: &str) -> anyhow::Result<Vec<u32>> {
     let mut found = Vec::new(rt.alloc());
     for word in line.split_whitespace() {

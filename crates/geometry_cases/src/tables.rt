@@ -1,26 +1,17 @@
 // Tables of turns, centres and positions.
-use anyhow::anyhow;
 use geometry::{Body, PackedPlace, Place, Position, ProjectedRectangle, Sides, Turn, centre};
-use refusal::Refusal;
-
-// A refusal where a case should be granted ends the run.
-fn granted<T: Drop>(answer: Result<T, Refusal>) -> anyhow::Result<T> {
-    match answer {
-        Ok(value) => Ok(value),
-        Err(refusal) => Err(anyhow!("{refusal}")),
-    }
-}
 
 fn print_turn(rt: &HostRuntime, code: u8, body: Sides) -> anyhow::Result<()> {
-    let turn = granted(Turn::from_code(code))?;
+    let turn = Turn::try_from(code)?;
     let Sides { width, height } = body;
     let field = turn.field(body);
-    let (across, down) = (field.width, field.height);
-    print!(rt; "turn {code} of {width} by {height} into {across} by {down}:")?;
+    print!(rt;
+        "turn {code} of {width} by {height} into {} by {}:",
+        field.width, field.height
+    )?;
     for y in 0..height {
         for x in 0..width {
-            let place = granted(turn.forwards(body, Place { x, y }))?;
-            let (k, m) = (place.x, place.y);
+            let Place { x: k, y: m } = turn.forwards(body, Place { x, y })?;
             print!(rt; " {k},{m}")?;
         }
     }
@@ -44,7 +35,7 @@ pub(crate) fn print_centres(rt: &HostRuntime) -> anyhow::Result<()> {
         for cells in 1..13 {
             print!(rt; "centre of {samples} in {cells}:")?;
             for cell in 0..cells {
-                let sample = granted(centre(samples, cells, cell))?;
+                let sample = centre(samples, cells, cell)?;
                 print!(rt; " {sample}")?;
             }
             println!(rt; "")?;
@@ -60,11 +51,8 @@ fn print_position(rt: &HostRuntime, turn: Turn, body: Body, place: Place) -> any
         top: 1,
         left: 4,
     };
-    let position = granted(Position::of(&rectangle, turn, body, PackedPlace(place)))?;
-    let (across, down) = (position.across, position.down);
-    let (n, d) = (across.numerator, across.denominator);
-    let (n2, d2) = (down.numerator, down.denominator);
-    print!(rt; " {n}/{d},{n2}/{d2}")?;
+    let Position { across, down } = Position::of(&rectangle, turn, body, PackedPlace(place))?;
+    print!(rt; " {across},{down}")?;
     Ok(())
 }
 
@@ -76,7 +64,7 @@ pub(crate) fn print_positions(rt: &HostRuntime) -> anyhow::Result<()> {
         left: 0,
     };
     for code in 0..8 {
-        let turn = granted(Turn::from_code(code))?;
+        let turn = Turn::try_from(code)?;
         print!(rt; "position {code}:")?;
         for y in 0..3 {
             for x in 0..2 {
@@ -95,13 +83,12 @@ pub(crate) fn print_film_columns(rt: &HostRuntime) -> anyhow::Result<()> {
         height: 1,
     };
     for code in 0..2 {
-        let turn = granted(Turn::from_code(code))?;
+        let turn = Turn::try_from(code)?;
         print!(rt; "film columns under code {code}:")?;
         for u in 0..3 {
-            let x = granted(centre(2, 3, u))?;
-            let place = granted(turn.backwards(body, Place { x, y: 0 }))?;
-            let column = place.x;
-            print!(rt; " {column}")?;
+            let x = centre(2, 3, u)?;
+            let place = turn.backwards(body, Place { x, y: 0 })?;
+            print!(rt; " {}", place.x)?;
         }
         println!(rt; "")?;
     }

@@ -3,7 +3,7 @@ use Rattle.std.proofs.Common.{◌≡◌, ℕ, ◌+◌, ◌<◌, ◌≤◌, List,
 use Rattle.std.proofs.lemmas.List.{at_drop_more}
 use Rattle.sheet.specs.declared.row.Row.{Row}
 use Rattle.listing.specs.Lines.{row_line, row_lines}
-use Rattle.listing.proofs.Texts.{on_way, room_left}
+use Rattle.listing.proofs.Texts.{room_left}
 
 -- one turn of the loop over the rows
 module _ (a w : List ℕ) (rows : List Row) (i : ℕ) (d : Row) (h : i < length rows) (inv : a ++ row_lines i (drop i rows) ≡ w ++ row_lines 0 rows) where
@@ -13,6 +13,3 @@ module _ (a w : List ℕ) (rows : List Row) (i : ℕ) (d : Row) (h : i < length 
   pub row_room : length w + length (row_lines 0 rows) ≤ 65536 → length a + length (row_line i (get_or rows i d)) ≤ 65536
   row_room le =
       omega (arith, room_left a (row_lines i (drop i rows)) w (row_lines 0 rows) inv, ap length here, length-append (row_line i (get_or rows i d)) (row_lines (i + 1) (drop (i + 1) rows)))
-
-  pub row_step : (b : List ℕ) → b ≡ a ++ row_line i (get_or rows i d) → b ++ row_lines (i + 1) (drop (i + 1) rows) ≡ w ++ row_lines 0 rows
-  row_step b e = on_way a b (row_line i (get_or rows i d)) (row_lines (i + 1) (drop (i + 1) rows)) (w ++ row_lines 0 rows) e (ap (λ z. a ++ z) (sym here) ∙ inv)

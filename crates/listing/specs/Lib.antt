@@ -1,4 +1,3 @@
 -- What the listing of a box is.
 pub mod Lines
 pub mod Listing
-pub mod Texts

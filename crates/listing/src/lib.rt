@@ -6,3 +6,4 @@ mod list;
 mod text;
 
 pub use list::list_box;
+pub use text::LONGEST;

@@ -2,7 +2,6 @@
 ghost use Rattle.std.specs.Prelude.{◌≡◌};
 ghost use Rattle.rwpk.specs.Writing.{put_answer, part_out};
 ghost use Rattle.listing.specs.Listing.{listing};
-ghost use Rattle.listing.specs.Texts.{text_of};
 
 use crate::lines::{push_refused, push_sheet};
 use crate::text::Text;
@@ -12,7 +11,7 @@ use sheet::Sheet;
 
 // The lines of a box, or the one line of its refusal.
 fn lines_of(input: &[u8]) -> Text
-    ensures { text_of result ≡ listing input.now }
+    ensures { result.bytes ≡ listing input.now }
 {
     let mut text = Text::new();
     let mut sheet = Sheet::new();
@@ -31,7 +30,7 @@ pub fn list_box(input: &[u8], buffer: &mut [u8]) -> Result<usize, Refusal>
 {
     // All lines are put together first, so that a buffer that is too short stays as it was.
     let text = lines_of(input);
-    let lines = text.as_bytes();
+    let lines = text.as_str().as_bytes();
     if buffer.len() < lines.len() {
         return Err(Refusal::BufferShort);
     }

@@ -1,10 +1,12 @@
 -- Boxes filled place by place, line by line and box by box.
-use Rattle.std.proofs.Common.{◌≡◌, ℕ, ◌+◌, ◌-◌, Bool, true, false, cond, ◌||◌, List, ◌∷◌, Some, None, Option, sym, refl, ap, arith}
+use Rattle.std.proofs.Common.{◌≡◌, ℕ, ◌+◌, ◌≤◌, max, Bool, true, false, cond, ◌&&◌, ◌||◌, List, ◌∷◌, Some, None, Option, sym, refl, ap, inl, inr, arith}
+use Rattle.std.proofs.Math.Bool.{or_comm}
+use Rattle.std.proofs.lemmas.Bool.{cases_lt}
 use Rattle.std.specs.Option.{option_map}
 use Rattle.std.proofs.lemmas.Bool.Decides.{nat_tests}
 use Rattle.geometry.specs.declared.bounds.Bounds.{Bounds}
 use Rattle.geometry.specs.declared.place.Place.{Place}
-use Rattle.geometry.specs.Boxes.{has, covers}
+use Rattle.geometry.specs.Boxes.{lies, has, covers}
 use Rattle.geometry.specs.Places.{at}
 use Rattle.picture.specs.Picture.{Picture, same_place, painted}
 use Rattle.picture.proofs.Pictures.{same_picture}
@@ -35,21 +37,20 @@ module _ {A : Type 0} (v : A) where
   filled_none p a h = same_picture _ _ refl (λ q. ap (λ c. over c (p.at q)) (sym (h q)))
 
   -- one place more of a line
-  pub line_more : (p : Picture A) (y left i : ℕ) →
-      painted (filled p (box y (y + 1) left (left + i)) v) (at (left + i) y) v ≡ filled p (box y (y + 1) left (left + (i + 1))) v
-  line_more p y left i =
+  pub line_more : (p : Picture A) (y left x : ℕ) → left ≤ x →
+      painted (filled p (box y (y + 1) left x) v) (at x y) v ≡ filled p (box y (y + 1) left (x + 1)) v
+  line_more p y left x from =
       same_picture _ _ refl
-      (λ q. twice (same_place q (at (left + i) y)) (has (box y (y + 1) left (left + i)) q.y q.x)
-      (has (box y (y + 1) left (left + (i + 1))) q.y q.x) (p.at q) (grind (arith, nat_tests)))
+      (λ q. twice (same_place q (at x y)) (has (box y (y + 1) left x) q.y q.x)
+      (has (box y (y + 1) left (x + 1)) q.y q.x) (p.at q) (grind (arith, nat_tests)))
 
   -- one line more of a box
-  pub box_more : (p : Picture A) (a : Bounds) (j : ℕ) →
-      filled (filled p (box a.top (a.top + j) a.left a.right) v) (line_of a (a.top + j)) v ≡
-      filled p (box a.top (a.top + (j + 1)) a.left a.right) v
-  box_more p a j =
+  pub box_more : (p : Picture A) (a : Bounds) (y : ℕ) → a.top ≤ y →
+      filled (filled p (box a.top y a.left a.right) v) (line_of a y) v ≡ filled p (box a.top (y + 1) a.left a.right) v
+  box_more p a y from =
       same_picture _ _ refl
-      (λ q. twice (has (line_of a (a.top + j)) q.y q.x) (has (box a.top (a.top + j) a.left a.right) q.y q.x)
-      (has (box a.top (a.top + (j + 1)) a.left a.right) q.y q.x) (p.at q) (grind (arith, nat_tests)))
+      (λ q. twice (has (line_of a y) q.y q.x) (has (box a.top y a.left a.right) q.y q.x)
+      (has (box a.top (y + 1) a.left a.right) q.y q.x) (p.at q) (grind (arith, nat_tests)))
 
   -- one box more
   pub boxes_more : (p : Picture A) (a : Bounds) (boxes : List Bounds) → filled_all (filled p a v) boxes v ≡ filled_all p (a ∷ boxes) v
@@ -57,24 +58,27 @@ module _ {A : Type 0} (v : A) where
       same_picture _ _ refl
       (λ q. twice (covers boxes q.y q.x) (has a q.y q.x) (covers (a ∷ boxes) q.y q.x) (p.at q)
       (or_comm (has a q.y q.x) (covers boxes q.y q.x)))
-    where
-      or_comm : (a b : Bool) → (a || b) ≡ (b || a)
-      or_comm true true = refl
-      or_comm true false = refl
-      or_comm false true = refl
-      or_comm false false = refl
 
-module _ (y : ℕ) (area : Bounds) (q : Place) where
-  pub no_line : has (box y (y + 1) area.left (area.left + 0)) q.y q.x ≡ false
-  no_line = grind (arith, nat_tests)
+-- a box that ends where it begins has no place
+pub no_line : (y left : ℕ) (q : Place) → has (box y (y + 1) left left) q.y q.x ≡ false
+no_line y left q = grind (arith, nat_tests)
 
-  pub no_box : has (box area.top (area.top + 0) area.left area.right) q.y q.x ≡ false
-  no_box = grind (arith, nat_tests)
+pub no_box : (top left right : ℕ) (q : Place) → has (box top top left right) q.y q.x ≡ false
+no_box top left right q = grind (arith, nat_tests)
 
-  pub whole_line : (i : ℕ) → i ≡ area.right - area.left →
-      has (box y (y + 1) area.left (area.left + i)) q.y q.x ≡ has (line_of area y) q.y q.x
-  whole_line i e = grind (arith, nat_tests)
+-- a count from lo that has come to hi, or began past it
+same_end : (lo hi x q : ℕ) → hi ≤ x → x ≤ max lo hi → lies lo x q ≡ lies lo hi q
+same_end lo hi x q past most =
+    elim (cases_lt hi lo) [
+      | inl none ↦ let still : x ≤ lo = omega arith in grind (arith, nat_tests)
+      | inr some ↦ let end : x ≡ hi = omega arith in ap (λ a. lies lo a q) end
+    ]
 
-  pub whole_box : (j : ℕ) → j ≡ area.bottom - area.top →
-      has (box area.top (area.top + j) area.left area.right) q.y q.x ≡ has area q.y q.x
-  whole_box j e = grind (arith, nat_tests)
+-- the line and the box that are filled when their loops end
+pub whole_line : (y : ℕ) (area : Bounds) (x : ℕ) → area.right ≤ x → x ≤ max area.left area.right → (q : Place) →
+    has (box y (y + 1) area.left x) q.y q.x ≡ has (line_of area y) q.y q.x
+whole_line y area x past most q = ap (λ b. lies y (y + 1) q.y && b) (same_end area.left area.right x q.x past most)
+
+pub whole_box : (area : Bounds) (y : ℕ) → area.bottom ≤ y → y ≤ max area.top area.bottom → (q : Place) →
+    has (box area.top y area.left area.right) q.y q.x ≡ has area q.y q.x
+whole_box area y past most q = ap (λ b. b && lies area.left area.right q.x) (same_end area.top area.bottom y q.y past most)

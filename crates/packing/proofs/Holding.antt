@@ -14,27 +14,27 @@ use Rattle.packing.specs.Carries.{counted, spans}
 use Rattle.packing.specs.Moves.{body_corner, holds}
 
 -- a place in a rectangle, by its four bounds
-pub record Among (corner : Place) (sides : Sides) (p : Place) : Type 0 where
+pub record Among (corner : Place) (sides : Sides ℕ) (p : Place) : Type 0 where
   pub left : corner.x ≤ p.x
   pub right : p.x < corner.x + sides.width
   pub top : corner.y ≤ p.y
   pub bottom : p.y < corner.y + sides.height
 
-pub among : (corner : Place) (sides : Sides) (p : Place) → spans corner sides p ≡ true → Among corner sides p
+pub among : (corner : Place) (sides : Sides ℕ) (p : Place) → spans corner sides p ≡ true → Among corner sides p
 among corner sides p h =
     let (x, y) = and_parts (lies corner.x (corner.x + sides.width) p.x) (lies corner.y (corner.y + sides.height) p.y) h in
     let (a, b) = lies_in corner.x (corner.x + sides.width) p.x x in
     let (c, d) = lies_in corner.y (corner.y + sides.height) p.y y in
     record { left = a; right = b; top = c; bottom = d }
 
-pub spanned : (corner : Place) (sides : Sides) (p : Place) → Among corner sides p → spans corner sides p ≡ true
+pub spanned : (corner : Place) (sides : Sides ℕ) (p : Place) → Among corner sides p → spans corner sides p ≡ true
 spanned corner sides p i =
     and_from (lies corner.x (corner.x + sides.width) p.x) (lies corner.y (corner.y + sides.height) p.y)
     (in_lies corner.x (corner.x + sides.width) p.x i.left i.right)
     (in_lies corner.y (corner.y + sides.height) p.y i.top i.bottom)
 
 -- counted from the corner it lies inside the sides
-pub counted_inside : (corner : Place) (sides : Sides) (p : Place) → spans corner sides p ≡ true → inside sides (counted corner p) ≡ true
+pub counted_inside : (corner : Place) (sides : Sides ℕ) (p : Place) → spans corner sides p ≡ true → inside sides (counted corner p) ≡ true
 counted_inside corner sides p h =
     let i : Among corner sides p = among corner sides p h in
     inside_from sides (counted corner p) (omega (arith, i.left, i.right)) (omega (arith, i.top, i.bottom))

@@ -1,5 +1,4 @@
 -- Lemmas of packing and unpacking.
-mod Able
 mod Carrying
 mod Filling
 mod Holding

@@ -1,12 +1,13 @@
 -- The claim map: rows marked from the last to the first, and what the marks say.
-use Rattle.std.proofs.Common.{◌≡◌, ℕ, zero, suc, ◌+◌, ◌-◌, ◌<◌, ◌≤◌, Bool, true, false, cond, eqb, List, [], ◌∷◌, length, get_or, drop, is_some, Some, None, Option, sym, refl, ap, ◌∙◌, ap₂, arith}
+use Rattle.std.proofs.Common.{◌≡◌, ℕ, zero, suc, ◌+◌, ◌<◌, Bool, true, false, cond, eqb, List, [], ◌∷◌, ◌++◌, length, is_some, Some, None, Option, sym, refl, ap, ◌∙◌, ap₂, arith}
 use Rattle.std.specs.Option.{option_map}
 use Rattle.std.specs.List.{slice_get}
-use Rattle.std.proofs.lemmas.List.{at_drop_more, at_drop_all}
-use Rattle.std.proofs.lemmas.Bool.{and_parts, cond-true, cond-false, eqb-true, false≢true}
+use Rattle.std.proofs.lemmas.Option.{none-some, same_Some}
+use Rattle.std.proofs.lemmas.Iterator.Adapters.{option_map_id}
+use Rattle.std.proofs.lemmas.Bool.{and_parts, cond-true, cond-false, eqb-true, false≢true, false_from_ne_true}
 use Rattle.std.proofs.lemmas.Bool.Decides.{nat_tests}
 use Rattle.geometry.specs.declared.place.Place.{Place}
-use Rattle.geometry.specs.Boxes.{has, covers}
+use Rattle.geometry.specs.Boxes.{has, covers, body_box}
 use Rattle.geometry.specs.Places.{at, by, inside}
 use Rattle.geometry.proofs.Insides.{inside_from}
 use Rattle.picture.specs.declared.mark.Mark.{Mark}
@@ -21,11 +22,14 @@ use Rattle.sheet.proofs.Apart.{body_claimed}
 use Rattle.packing.specs.Maps.{mark_at, claim_map, Marked, filled, filled_all, marked}
 use Rattle.packing.specs.Moves.{holds, is_packed}
 use Rattle.packing.proofs.Filling.{box}
-use Rattle.packing.proofs.Numbering.{none_there, some_same, not_so}
 
 -- a body's box has the places that the body holds
 pub body_has : (r : Row) (q : Place) → has (widened r.body no_reach) q.y q.x ≡ holds r q
 body_has r q = grind (arith, nat_tests)
+
+-- and so has the box that is filled
+box_has : (r : Row) (q : Place) → has (body_box r.body) q.y q.x ≡ holds r q
+box_has r q = grind (arith, nat_tests)
 
 two_marks : (b e : Bool) (o : Option Mark) (body band : Mark) →
     cond b (option_map (λ (m : Mark). body) (cond e (option_map (λ (m : Mark). band) o) o)) (cond e (option_map (λ (m : Mark). band) o) o) ≡
@@ -41,41 +45,35 @@ two_marks false false (Some m) body band = refl
 
 -- a row's bands, and its body over them
 pub row_marked : (p : Picture Mark) (n : ℕ) (r : Row) →
-    filled (filled_all p (claim r) (Band n)) (widened r.body no_reach) (Body n) ≡ marked n (r ∷ []) p
+    filled (filled_all p (claim r) (Band n)) (body_box r.body) (Body n) ≡ marked n (r ∷ []) p
 row_marked p n r =
     same_picture _ _ refl
     (λ q.
     let e : Bool = covers (claim r) q.y q.x in
     let o : Option Mark = p.at q in
     ap (λ b. cond b (option_map (λ (m : Mark). Body n) (cond e (option_map (λ (m : Mark). Band n) o) o)) (cond e (option_map (λ (m : Mark). Band n) o) o))
-    (body_has r q)
+    (box_has r q)
     ∙ two_marks (holds r q) e o (Body n) (Band n))
 
-unmarked : (o : Option Mark) → o ≡ option_map (λ (m : Mark). m) o
-unmarked None = refl
-unmarked (Some m) = refl
+-- no row marks nothing
+pub marked_none : (p : Picture Mark) (n : ℕ) → marked n [] p ≡ p
+marked_none p n = same_picture _ _ refl (λ q. option_map_id (p.at q))
 
--- before the last row there is no mark
-pub marked_none : (p : Picture Mark) (rows : List Row) (n : ℕ) → length rows ≤ n → p ≡ marked n (drop n rows) p
-marked_none p rows n h =
-    same_picture _ _ refl (λ q. unmarked (p.at q) ∙ sym (at_drop_all (λ l. option_map (mark_at n l q) (p.at q)) rows n h))
+mark_last : (n k : ℕ) (rows : List Row) (r : Row) (q : Place) (old : Mark) → k ≡ n + length rows →
+    mark_at n rows q (mark_at k (r ∷ []) q old) ≡ mark_at n (rows ++ r ∷ []) q old
+mark_last n k [] r q old e = let same : k ≡ n = omega arith in ap (λ m. mark_at m (r ∷ []) q old) same
+mark_last n k (s ∷ rows) r q old e =
+    ap (λ m. cond (holds s q) (Body n) (cond (covers (claim s) q.y q.x) (Band n) m)) (mark_last (n + 1) k rows r q old (omega arith))
 
-in_front : (n : ℕ) (r : Row) (rows : List Row) (q : Place) (o : Option Mark) →
-    option_map (mark_at n (r ∷ []) q) (option_map (mark_at (n + 1) rows q) o) ≡ option_map (mark_at n (r ∷ rows) q) o
-in_front n r rows q None = refl
-in_front n r rows q (Some m) = refl
-
--- one row more, in front of those that are marked
-pub marked_front : (p : Picture Mark) (rows : List Row) (n : ℕ) (d : Row) → 0 < n → n ≤ length rows →
-    marked (n - 1) (get_or rows (n - 1) d ∷ []) (marked n (drop n rows) p) ≡ marked (n - 1) (drop (n - 1) rows) p
-marked_front p rows n d some most =
-    let back : n ≡ n - 1 + 1 = omega arith in
-    let r : Row = get_or rows (n - 1) d in
-    same_picture _ _ refl
-    (λ q.
-    ap (λ k. option_map (mark_at (n - 1) (r ∷ []) q) (option_map (mark_at k (drop k rows) q) (p.at q))) back
-    ∙ in_front (n - 1) r (drop (n - 1 + 1) rows) q (p.at q)
-    ∙ sym (at_drop_more (λ l. option_map (mark_at (n - 1) l q) (p.at q)) rows (n - 1) d (omega arith)))
+-- the last row first, and then those before it
+pub marked_last : (p : Picture Mark) (n k : ℕ) (rows : List Row) (r : Row) → k ≡ n + length rows →
+    marked n rows (marked k (r ∷ []) p) ≡ marked n (rows ++ r ∷ []) p
+marked_last p n k rows r e = same_picture _ _ refl (λ q. both q (p.at q))
+  where
+    both : (q : Place) (o : Option Mark) →
+        option_map (mark_at n rows q) (option_map (mark_at k (r ∷ []) q) o) ≡ option_map (mark_at n (rows ++ r ∷ []) q) o
+    both q None = refl
+    both q (Some m) = ap Some (mark_last n k rows r q m e)
 
 cleared : (t : Bool) (o : Option Mark) (f : Mark → Mark) → is_some o ≡ t →
     option_map f (cond t (option_map (λ (m : Mark). Nobody) o) o) ≡ cond t (Some (f Nobody)) None
@@ -115,16 +113,16 @@ mark_of : (m : ℕ) (rows : List Row) (n : ℕ) (r : Row) (q : Place) (old : Mar
     covers (claim r) q.y q.x ≡ true →
     ((k : ℕ) (s : Row) → k < n → slice_get rows k ≡ Some s → covers (claim s) q.y q.x ≡ true → ⊥) →
     mark_at m rows q old ≡ cond (holds r q) (Body (m + n)) (Band (m + n))
-mark_of m [] n r q old e claims first = absurd (none_there r e)
+mark_of m [] n r q old e claims first = absurd (none-some r e)
 mark_of m (s ∷ rows) zero r q old e claims first =
-    let same : s ≡ r = some_same s r e in
+    let same : s ≡ r = same_Some s r e in
     let here : m ≡ m + 0 = omega arith in
     ap (λ x. cond (holds s q) (Body m) x) (cond-true _ _ _ (ap (λ (t : Row). covers (claim t) q.y q.x) same ∙ claims))
     ∙ (λ i. cond (holds (same i) q) (Body (here i)) (Band (here i)))
 mark_of m (s ∷ rows) (suc n) r q old e claims first =
     let on : m + 1 + n ≡ m + suc n = omega arith in
-    cond-false _ _ _ (not_so (holds s q) (λ t. first zero s (omega arith) refl (held_claimed s q t)))
-    ∙ cond-false _ _ _ (not_so (covers (claim s) q.y q.x) (first zero s (omega arith) refl))
+    cond-false _ _ _ (false_from_ne_true (holds s q) (λ t. first zero s (omega arith) refl (held_claimed s q t)))
+    ∙ cond-false _ _ _ (false_from_ne_true (covers (claim s) q.y q.x) (first zero s (omega arith) refl))
     ∙ mark_of (m + 1) rows n r q old e claims (λ k t lt. first (suc k) t (omega arith))
     ∙ ap (λ k. cond (holds r q) (Body k) (Band k)) on
 
@@ -132,8 +130,8 @@ mark_none : (m : ℕ) (rows : List Row) (q : Place) (old : Mark) →
     ((n : ℕ) (r : Row) → slice_get rows n ≡ Some r → covers (claim r) q.y q.x ≡ true → ⊥) → mark_at m rows q old ≡ old
 mark_none m [] q old none = refl
 mark_none m (s ∷ rows) q old none =
-    cond-false _ _ _ (not_so (holds s q) (λ t. none zero s refl (held_claimed s q t)))
-    ∙ cond-false _ _ _ (not_so (covers (claim s) q.y q.x) (none zero s refl))
+    cond-false _ _ _ (false_from_ne_true (holds s q) (λ t. none zero s refl (held_claimed s q t)))
+    ∙ cond-false _ _ _ (false_from_ne_true (covers (claim s) q.y q.x) (none zero s refl))
     ∙ mark_none (m + 1) rows q old (λ n r e. none (suc n) r e)
 
 -- the claim map in words
@@ -144,7 +142,7 @@ map_words c facts y x wide high =
           shown ∙ ap Some (first n b.row b.numbered (held_claimed b.row q (held b)) ∙ cond-true _ _ _ (held b) ∙ ap Body (from_zero n));
       band = λ n k off.
           shown ∙ ap Some (first n k.row k.numbered k.within
-          ∙ cond-false _ _ _ (not_so (holds k.row q) (λ t. off (record { row = k.row; numbered = k.numbered; within = body_has k.row q ∙ t })))
+          ∙ cond-false _ _ _ (false_from_ne_true (holds k.row q) (λ t. off (record { row = k.row; numbered = k.numbered; within = body_has k.row q ∙ t })))
           ∙ ap Band (from_zero n));
       nobody = λ none.
           shown ∙ ap Some (mark_none 0 c.rows q Nobody (λ n r e t. none n (record { row = r; numbered = e; within = t })));

@@ -1,6 +1,7 @@
 -- The promise stands.
 use Rattle.std.proofs.Common.{◌≡◌, ℕ, zero, suc, ◌+◌, Bool, true, false, ◌&&◌, List, [], ◌∷◌, length, take, IfErr, Some, Ok, Err, Result, sym, refl, ap, ◌∙◌, subst, add-one, arith, take_all}
 use Rattle.std.specs.List.{slice_get}
+use Rattle.std.proofs.lemmas.Option.{none-some, same_Some}
 use Rattle.std.proofs.lemmas.Bool.{and_parts, and_from, cond-true}
 use Rattle.refusal.specs.declared.Refusal.{Refusal}
 use Rattle.geometry.specs.declared.search.Spot.{Spot}
@@ -10,20 +11,19 @@ use Rattle.sheet.specs.Rules.{Content, new_sheet, place_answer}
 use Rattle.sheet.specs.Sound.{sound}
 use Rattle.sheet.specs.Words.{Facts, PlacedFirst}
 use Rattle.sheet.proofs.Placing.{placed}
-use Rattle.edits.specs.declared.edit.Answer.{Answer}
 use Rattle.edits.specs.declared.edit.Edit.{Edit}
 use Rattle.edits.specs.declared.edit.Edit.TheVariants.{Place as PlaceEdit}
 use Rattle.edits.specs.Runs.{answer, next, left_by, spot_answered, Ran}
+use Rattle.edits.specs.Told.{Answer}
 use Rattle.packing.specs.Moves.{fit, fitted, is_projected, is_packed, Packs, Unpacks}
 use Rattle.packing.specs.Promise.{sheet_after, Passes, Placing, Promise, Rehearsed}
-use Rattle.packing.proofs.Numbering.{none_there, some_same}
 use Rattle.packing.proofs.Returning.{granted, serve_is, packs, unpacks, fine, unlike, coarse}
 
 -- one edit more of a run
 one_more : (c : Content) (es : List Edit) (k : ℕ) (e : Edit) → slice_get es k ≡ Some e →
     left_by c (take (suc k) es) ≡ next (left_by c (take k es)) e
-one_more c [] k e h = absurd (none_there e h)
-one_more c (f ∷ es) zero e h = ap (next c) (some_same f e h)
+one_more c [] k e h = absurd (none-some e h)
+one_more c (f ∷ es) zero e h = ap (next c) (same_Some f e h)
 one_more c (f ∷ es) (suc k) e h = one_more (next c f) es k e h
 
 step : (es : List Edit) (k : ℕ) (e : Edit) → slice_get es k ≡ Some e → sheet_after es (k + 1) ≡ next (sheet_after es k) e
@@ -52,7 +52,7 @@ promised A edits sheet told ran facts =
           };
       apart = ran.once_throughout;
       placing = λ k d a e t passes.
-          let same : a ≡ answer (sheet_after edits k) (PlaceEdit d) = some_same a _ (sym t ∙ ran.in_turn k (PlaceEdit d) e) in
+          let same : a ≡ answer (sheet_after edits k) (PlaceEdit d) = same_Some a _ (sym t ∙ ran.in_turn k (PlaceEdit d) e) in
           placing (sheet_after edits k) d a (ran.sound_throughout k) same passes;
       serves = serve_is sheet facts;
       packs = packs sheet facts;

@@ -19,13 +19,13 @@ use Rattle.picture.proofs.RowByRow.{or_when}
 use Rattle.picture.proofs.Stretches.{stretch_on, on_lies}
 use Rattle.packing.specs.declared.carry.Carry.{Carry}
 use Rattle.packing.specs.declared.course.Course.{Course}
-use Rattle.packing.specs.Carries.{Able, CarryFits, step, source, counted, spans, written, carried}
+use Rattle.packing.specs.Carries.{CarryFits, step, source, counted, spans, written, carried}
 use Rattle.packing.specs.Strips.{track_of, strip}
 
-pub step_inside : (c : Course) (i : ℕ) → Able c → i < c.parts → step c i < c.side
-step_inside c i able h =
+pub step_inside : (c : Course) (i : ℕ) → i < c.parts → step c i < c.side
+step_inside c i h =
     let cell = mirror_inside c.before c.parts i h in
-    mirror_inside c.after c.side _ (centres.inside c.side c.parts _ able.side cell)
+    mirror_inside c.after c.side _ (centres.inside c.side c.parts _ c.some_side cell)
 
 -- a step of a line's track is where a place of that line comes from
 pub track_source : (c : Carry) (t : Track) (k i j : ℕ) → t ≡ track_of c j → k ≡ step c.across i → along t k ≡ source c (at i j)
@@ -36,18 +36,18 @@ track_source c t k i j et ek = ap₂ along et ek ∙ go c.crossed c.from.x c.fro
     go true x y a d = refl
     go false x y a d = refl
 
-module _ (c : Carry) (from to : Sides) (fits : CarryFits c from to) (j : ℕ) (line : j < c.down.parts) where
+module _ (c : Carry) (from to : Sides ℕ) (fits : CarryFits c from to) (j : ℕ) (line : j < c.down.parts) where
   -- the rectangle read lies inside, whichever way round
   abbrev Reads : Bool → Type 0
   Reads b =
-      let read : Sides = cond b (by c.down.side c.across.side) (by c.across.side c.down.side) in
+      let read : Sides ℕ = cond b (by c.down.side c.across.side) (by c.across.side c.down.side) in
       (c.from.x + read.width ≤ from.width) × (c.from.y + read.height ≤ from.height)
 
   -- where a place comes from lies inside
   pub source_inside : (i : ℕ) → i < c.across.parts → inside from (source c (at i j)) ≡ true
   source_inside i column =
-      go c.crossed (step c.across i) (step c.down j) (step_inside c.across i fits.across column)
-      (step_inside c.down j fits.down line) (fits.from_right, fits.from_bottom)
+      go c.crossed (step c.across i) (step c.down j) (step_inside c.across i column)
+      (step_inside c.down j line) (fits.from_right, fits.from_bottom)
     where
       go : (b : Bool) (k m : ℕ) → k < c.across.side → m < c.down.side → Reads b →
           inside from (cond b (at (c.from.x + m) (c.from.y + k)) (at (c.from.x + k) (c.from.y + m))) ≡ true
@@ -57,7 +57,7 @@ module _ (c : Carry) (from to : Sides) (fits : CarryFits c from to) (j : ℕ) (l
   -- and so does the start of its track
   pub track_inside : ((track_of c j).start.x < from.width) × ((track_of c j).start.y < from.height)
   track_inside =
-      go c.crossed (step c.down j) (step_inside c.down j fits.down line) fits.across.side
+      go c.crossed (step c.down j) (step_inside c.down j line) c.across.some_side
       (fits.from_right, fits.from_bottom)
     where
       go : (b : Bool) (m : ℕ) → m < c.down.side → 0 < c.across.side → Reads b →
@@ -123,6 +123,14 @@ module _ {A : Type 0} where
       drawn_then (strip c 0 start m) (strip c start n m) (strip c 0 (start + n) m) p q
       (λ a. or_when (spans (at (c.to.x + 0) c.to.y) (by (start + n) m) a) (spans (at (c.to.x + start) c.to.y) (by n m) a)
       (spans (at (c.to.x + 0) c.to.y) (by start m) a) (source c (counted c.to a)) (grind (arith, nat_tests)))
+
+  pub strip_then : (c : Carry) (p q mid left : Picture A) (start n m end : ℕ) → left ≡ drawn (strip c start n m) p mid →
+      mid ≡ drawn (strip c 0 start m) p q → start + n ≡ end → left ≡ drawn (strip c 0 end m) p q
+  strip_then c p q mid left start n m end last before e =
+      last
+      ∙ ap (drawn (strip c start n m) p) before
+      ∙ strip_more c p q start n m
+      ∙ ap (λ k. drawn (strip c 0 k m) p q) e
 
   -- every strip
   pub all_strips : (c : Carry) (p q : Picture A) → drawn (strip c 0 c.across.parts c.down.parts) p q ≡ drawn (carried c) p q

@@ -1,5 +1,5 @@
 -- A rectangle of one picture carried onto a rectangle of another.
-use Rattle.std.specs.Prelude.{ℕ, ◌+◌, ◌-◌, ◌*◌, ◌^◌, ◌<◌, ◌≤◌, Bool, false, cond, ◌&&◌}
+use Rattle.std.specs.Prelude.{◌≡◌, ℕ, ◌+◌, ◌-◌, ◌≤◌, Bool, cond, ◌&&◌}
 use Rattle.std.specs.Bool.{then_some}
 use Rattle.geometry.specs.declared.place.Place.{Place}
 use Rattle.geometry.specs.declared.place.Sides.{Sides}
@@ -15,13 +15,19 @@ use Rattle.packing.specs.declared.carry.Carry.{Carry}
 abbrev pub step : Course → ℕ → ℕ
 step c i = mirror c.after c.side (centre c.side c.parts (mirror c.before c.parts i))
 
--- a side of the body from a side of the projected rectangle: mirrored first, then the whole part
-abbrev pub inwards : ℕ → ℕ → Bool → Course
-inwards parts side far = record { parts = parts; side = side; before = far; after = false }
+-- along a side of the body, from a side of the projected rectangle: mirrored first, then the whole part
+abbrev pub inwards : ℕ → ℕ → Bool → ℕ → ℕ
+inwards parts side far i = centre side parts (mirror far parts i)
 
--- a side of the projected rectangle from a side of the body: the whole part first, then mirrored
-abbrev pub outwards : ℕ → ℕ → Bool → Course
-outwards parts side far = record { parts = parts; side = side; before = false; after = far }
+-- along a side of the projected rectangle, from a side of the body: the whole part first, then mirrored
+abbrev pub outwards : ℕ → ℕ → Bool → ℕ → ℕ
+outwards parts side far i = mirror far side (centre side parts i)
+
+-- A course along a side of n places from one of m, where place i comes from place f i.
+pub record Leads (c : Course) (n m : ℕ) (f : ℕ → ℕ) : Type 0 where
+  pub parts : c.parts ≡ n
+  pub side : c.side ≡ m
+  pub steps : (i : ℕ) → step c i ≡ f i
 
 -- the place that a place of the rectangle written comes from
 abbrev pub source : Carry → Place → Place
@@ -35,32 +41,24 @@ abbrev pub counted : Place → Place → Place
 counted corner p = at (p.x - corner.x) (p.y - corner.y)
 
 -- a rectangle with this corner and these sides has the place
-abbrev pub spans : Place → Sides → Place → Bool
+abbrev pub spans : Place → Sides ℕ → Place → Bool
 spans corner sides p =
     lies corner.x (corner.x + sides.width) p.x && lies corner.y (corner.y + sides.height) p.y
 
 -- the sides of the rectangle written
-abbrev pub written : Carry → Sides
+abbrev pub written : Carry → Sides ℕ
 written c = by c.across.parts c.down.parts
 
 -- the sides of the rectangle read
-abbrev pub taken_from : Carry → Sides
+abbrev pub taken_from : Carry → Sides ℕ
 taken_from c = cond c.crossed (by c.down.side c.across.side) (by c.across.side c.down.side)
 
 -- each place of the rectangle written takes the sample that it comes from
 abbrev pub carried : Carry → Sources
 carried c p = then_some (spans c.to (written c) p) (source c (counted c.to p))
 
--- A side of at least one place comes from a side of at least one, one of which has at most 16 bits.
-pub record Able (c : Course) : Type 0 where
-  pub parts : 0 < c.parts
-  pub side : 0 < c.side
-  pub small : c.parts * c.side < 2 ^ 48
-
 -- Both rectangles lie inside pictures of these sides.
-pub record CarryFits (c : Carry) (from to : Sides) : Type 0 where
-  pub across : Able c.across
-  pub down : Able c.down
+pub record CarryFits (c : Carry) (from to : Sides ℕ) : Type 0 where
   pub from_right : c.from.x + (taken_from c).width ≤ from.width
   pub from_bottom : c.from.y + (taken_from c).height ≤ from.height
   pub to_right : c.to.x + c.across.parts ≤ to.width

@@ -3,5 +3,5 @@ pub mod Carries
 pub mod Maps
 pub mod Moves
 pub mod Promise
-pub mod RowCarries
+pub mod Rows
 pub mod Strips

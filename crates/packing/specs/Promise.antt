@@ -1,6 +1,6 @@
 -- The promise, whole: what holds of every list of edits, and of all pictures that are packed and unpacked by the sheet
 -- that it leaves.
-use Rattle.std.specs.Prelude.{◌≡◌, ℕ, ◌+◌, ◌<◌, true, ◌&&◌, List, length, take, Some, Ok, Result, ◌≢◌}
+use Rattle.std.specs.Prelude.{◌≡◌, ℕ, ◌+◌, ◌<◌, true, ◌&&◌, List, length, take, Some, None, Ok, Err, Result, ◌≢◌}
 use Rattle.std.specs.List.{slice_get}
 use Rattle.refusal.specs.declared.Refusal.{Refusal}
 use Rattle.refusal.specs.declared.Refusal.TheVariants.{NoFreeSpot}
@@ -13,12 +13,11 @@ use Rattle.sheet.specs.declared.row.Row.{Row}
 use Rattle.sheet.specs.Rules.{Content, new_sheet, verdict, shape_checks, drafted}
 use Rattle.sheet.specs.Serving.{covers_place, served_place, serve_answer, Fine, Coarse}
 use Rattle.sheet.specs.Words.{ClaimedOnce, FreeSpot}
-use Rattle.edits.specs.declared.edit.Answer.{Answer}
-use Rattle.edits.specs.declared.edit.Answer.TheVariants.{Granted, Placed, Refused, RefusedAt}
+use Rattle.edits.specs.declared.refused.EditRefused.TheVariants.{Plain, InBox}
 use Rattle.edits.specs.declared.edit.Edit.{Edit}
 use Rattle.edits.specs.declared.edit.Edit.TheVariants.{Place as PlaceEdit}
 use Rattle.edits.specs.Runs.{answer, next, left_by}
-use Rattle.edits.specs.Told.{is_refused}
+use Rattle.edits.specs.Told.{Answer, is_refused}
 use Rattle.packing.specs.Moves.{holds, centre_of, server_of, given, is_projected, fit, fitted, Packs, Unpacks}
 
 -- the sheet after the first k edits, from a new sheet
@@ -44,10 +43,10 @@ Passes c d = verdict (shape_checks c (drafted d 0 0)) ≡ Ok tt
 -- It then answers a free spot, and every other free spot is lower, or level and further right; or it is refused with 17, and
 -- no spot is free.
 abbrev pub Placing : Content → Draft → Answer → Type 0
-Placing c d (Placed s) = FreeSpot c d s × ((t : Spot) → FreeSpot c d t → (t ≢ s) → Later s t)
-Placing c d (Refused e) = (e ≡ NoFreeSpot) × ((t : Spot) → FreeSpot c d t → ⊥)
-Placing c d Granted = ⊥
-Placing c d (RefusedAt f) = ⊥
+Placing c d (Ok (Some s)) = FreeSpot c d s × ((t : Spot) → FreeSpot c d t → (t ≢ s) → Later s t)
+Placing c d (Err (Plain e)) = (e ≡ NoFreeSpot) × ((t : Spot) → FreeSpot c d t → ⊥)
+Placing c d (Ok None) = ⊥
+Placing c d (Err (InBox f)) = ⊥
 
 -- row r is on the sheet and has the number n
 abbrev pub Numbered : Content → ℕ → Row → Type 0

@@ -1,7 +1,7 @@
 // A rectangle of one store carried onto a rectangle of another.
 ghost use Rattle.std.specs.Prelude.{◌≡◌, ◌+◌, ◌^◌, ◌<◌, ◌≤◌, length};
 ghost use Rattle.picture.specs.Draws.{drawn};
-ghost use Rattle.packing.specs.Carries.{Able, CarryFits, carried};
+ghost use Rattle.packing.specs.Carries.{CarryFits, carried};
 ghost use Rattle.packing.specs.Strips.{StepsFrom, track_of, strip};
 
 use crate::course::Course;
@@ -36,7 +36,6 @@ impl Carry {
 
     // The line or the column that line j comes from.
     fn track(self, j: u32) -> Track
-        requires able { Able self.down }
         requires line { j < self.down.parts }
         requires across { (track_of self j).start.x < 2 ^ 32 }
         requires down { (track_of self j).start.y < 2 ^ 32 }
@@ -89,14 +88,13 @@ pub(crate) fn carry_over<P: Store, Q: Store<Sample = P::Sample>>(carry: Carry, f
         (P.Store.shown from.now) (Q.Store.shown to.old) }
     ensures rest { Q.Store.kept to.old to.new }
 {
-    let mut table = [0u32; LONG];
+    // Fixed memory, since neither packing nor unpacking may run out of it.
+    let mut table = [0; LONG];
     let width = carry.strip_width();
-    let mut start = 0;
-    while start < carry.across.parts {
+    for start in (0..carry.across.parts).step_by(width) {
         let n = width.min((carry.across.parts - start) as usize);
         let steps = &mut table[0..n];
         carry.across.fill(start, steps);
         carry_strip(carry, start, steps, from, to);
-        start += n as u32;
     }
 }

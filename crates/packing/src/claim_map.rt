@@ -1,12 +1,11 @@
 // The claim map: a mark at each packed place that says whose it is.
 ghost use Rattle.std.specs.Prelude.{◌≡◌, ◌≤◌, true, cond, [], ◌∷◌, length, OnErr, OnOk};
-ghost use Rattle.sheet.specs.Claims.{no_reach, widened};
 ghost use Rattle.sheet.specs.Contents.{content};
 ghost use Rattle.packing.specs.Maps.{claim_map, Marked, line_of, filled, filled_all, marked};
 ghost use Rattle.packing.specs.Moves.{fitted, is_packed};
 
-use crate::sides::has_packed_sides;
-use geometry::{Body, Bounds, Place};
+use crate::sides::check_sides;
+use geometry::{Bounds, Place, Sides};
 use picture::{Mark, Store};
 use refusal::Refusal;
 use sheet::{Row, Sheet, claim};
@@ -16,12 +15,8 @@ fn fill_line<S: Store<Sample = Mark>>(map: &mut S, area: Bounds, y: u32, mark: M
     ensures after { S.Store.shown map.new ≡ filled (S.Store.shown map.old) (line_of area y) mark }
     ensures rest { S.Store.kept map.old map.new }
 {
-    for i in 0..area.right.saturating_sub(area.left) {
-        let place = Place {
-            x: area.left + i,
-            y,
-        };
-        let _ = map.put(place, mark);
+    for x in area.left..area.right {
+        let _ = map.put(Place { x, y }, mark);
     }
 }
 
@@ -30,8 +25,8 @@ fn fill<S: Store<Sample = Mark>>(map: &mut S, area: Bounds, mark: Mark)
     ensures after { S.Store.shown map.new ≡ filled (S.Store.shown map.old) area mark }
     ensures rest { S.Store.kept map.old map.new }
 {
-    for j in 0..area.bottom.saturating_sub(area.top) {
-        fill_line(map, area, area.top + j, mark);
+    for y in area.top..area.bottom {
+        fill_line(map, area, y, mark);
     }
 }
 
@@ -45,25 +40,13 @@ fn fill_all<S: Store<Sample = Mark>>(map: &mut S, areas: &[Bounds], mark: Mark)
     }
 }
 
-// The box of a body.
-fn body_box(body: Body) -> Bounds
-    ensures { result ≡ widened body no_reach }
-{
-    Bounds {
-        top: body.top as u32,
-        bottom: body.top as u32 + body.height as u32,
-        left: body.left as u32,
-        right: body.left as u32 + body.width as u32,
-    }
-}
-
 // Marks a row's bands, and its body over them.
 fn mark_row<S: Store<Sample = Mark>>(map: &mut S, row: &Row, number: u8)
     ensures after { S.Store.shown map.new ≡ marked number (row.now ∷ []) (S.Store.shown map.old) }
     ensures rest { S.Store.kept map.old map.new }
 {
     fill_all(map, &claim(row), Mark::Band(number));
-    fill(map, body_box(row.body), Mark::Body(number));
+    fill(map, Bounds::from(row.body), Mark::Body(number));
 }
 
 // Marks all rows, the last one first.
@@ -72,8 +55,8 @@ fn mark_rows<S: Store<Sample = Mark>>(map: &mut S, rows: &[Row])
     ensures after { S.Store.shown map.new ≡ marked 0 rows.now (S.Store.shown map.old) }
     ensures rest { S.Store.kept map.old map.new }
 {
-    for n in (0..rows.len()).rev() {
-        mark_row(map, &rows[n], n as u8);
+    for (n, row) in rows.iter().enumerate().rev() {
+        mark_row(map, row, n as u8);
     }
 }
 
@@ -85,12 +68,12 @@ fn map_fitting<S: Store<Sample = Mark>>(sheet: &Sheet, map: &mut S)
     ensures rest { S.Store.kept map.old map.new }
 {
     sheet.facts();
-    let sides = sheet.sides().packed;
+    let Sides { width, height } = Sides::from(sheet.sides().packed);
     let whole = Bounds {
         top: 0,
-        bottom: sides.height as u32,
+        bottom: height,
         left: 0,
-        right: sides.width as u32,
+        right: width,
     };
     fill(map, whole, Mark::Nobody);
     mark_rows(map, sheet.rows());
@@ -106,9 +89,7 @@ pub fn map_claims<S: Store<Sample = Mark>>(sheet: &Sheet, map: &mut S) -> Result
     ensures rest { S.Store.kept map.old map.new }
     ensures untouched { OnErr result (map.new ≡ map.old) }
 {
-    if !has_packed_sides(sheet, map) {
-        return Err(Refusal::UnfitSides);
-    }
+    check_sides(map, Sides::from(sheet.sides().packed))?;
     map_fitting(sheet, map);
     Ok(())
 }

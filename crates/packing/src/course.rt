@@ -1,11 +1,10 @@
 // How the places along one side of a rectangle come from those along a side of another.
-ghost use Rattle.std.specs.Prelude.{◌≡◌, ◌+◌, ◌*◌, ◌^◌, ◌<◌, ◌≤◌, length};
-ghost use Rattle.geometry.specs.Turns.{mirror};
-ghost use Rattle.packing.specs.Carries.{step, inwards, outwards, Able};
-ghost use Rattle.packing.specs.Strips.{StepsFrom};
+ghost use Rattle.std.specs.Prelude.{◌<◌};
 
-// There are `parts` places along the side that is written, and `side` along the one that is read. The mirrors stand
-// apart, since a middle that lies between two samples falls to another one if it is mirrored first.
+use geometry::{centre, mirrored_if};
+
+// There are `parts` places along the side that is written, and `side` along the one that is read: at least one of each. The
+// mirrors stand apart, since a middle that lies between two samples falls to another one if it is mirrored first.
 #[derive(Clone, Copy)]
 pub(crate) struct Course {
     pub(crate) parts: u32,
@@ -14,32 +13,23 @@ pub(crate) struct Course {
     pub(crate) before: bool,
     // counted from the far end after it
     pub(crate) after: bool,
+    ghost some_parts: { 0 < parts },
+    ghost some_side: { 0 < side },
 }
-
-fn mirrored_if(on: bool, side: u32, x: u32) -> u32
-    requires { x < side }
-    ensures { result ≡ mirror on side x }
-{
-    if on { side - 1 - x } else { x }
-}
-
-// Does nothing. Whoever calls it knows that the product of a side of 16 bits and one of 32 is small.
-fn small_product(narrow: u16, wide: u32)
-    ensures first { narrow * wide < 2 ^ 48 }
-    ensures second { wide * narrow < 2 ^ 48 }
-{}
 
 impl Course {
+    ghost use Rattle.std.specs.Prelude.{◌≡◌, ◌+◌, ◌<◌, ◌≤◌, length};
+    ghost use Rattle.packing.specs.Carries.{step, inwards, outwards, Leads};
+    ghost use Rattle.packing.specs.Strips.{StepsFrom};
+
     // Mirrored first.
-    pub(crate) fn inwards(parts: u16, side: u32, far: bool) -> Course
+    pub(crate) fn inwards(parts: u32, side: u32, far: bool) -> Course
         requires parts { 0 < parts }
         requires side { 0 < side }
-        ensures value { result ≡ inwards parts side far }
-        ensures able { Able result }
+        ensures { Leads result parts side (inwards parts side far) }
     {
-        small_product(parts, side);
         Course {
-            parts: parts as u32,
+            parts,
             side,
             before: far,
             after: false,
@@ -47,16 +37,14 @@ impl Course {
     }
 
     // Mirrored last.
-    pub(crate) fn outwards(parts: u32, side: u16, far: bool) -> Course
+    pub(crate) fn outwards(parts: u32, side: u32, far: bool) -> Course
         requires parts { 0 < parts }
         requires side { 0 < side }
-        ensures value { result ≡ outwards parts side far }
-        ensures able { Able result }
+        ensures { Leads result parts side (outwards parts side far) }
     {
-        small_product(side, parts);
         Course {
             parts,
-            side: side as u32,
+            side,
             before: false,
             after: far,
         }
@@ -64,23 +52,21 @@ impl Course {
 
     // The place along the other side that place i comes from.
     pub(crate) fn step(self, i: u32) -> u32
-        requires able { Able self }
-        requires within { i < self.parts }
-        ensures value { result ≡ step self i }
-        ensures inside { result < self.side }
+        requires { i < self.parts }
+        ensures { result ≡ step self i }
     {
         let cell = mirrored_if(self.before, self.parts, i);
-        let sample = (2 * cell as u64 + 1) * self.side as u64 / (2 * self.parts as u64);
-        mirrored_if(self.after, self.side, sample as u32)
+        let sample = centre(self.side, self.parts, cell).unwrap();
+        mirrored_if(self.after, self.side, sample)
     }
+
     // Writes down where the places from `start` on come from.
     pub(crate) fn fill(self, start: u32, steps: &mut [u32])
-        requires able { Able self }
-        requires within { start + length steps.old ≤ self.parts }
+        requires { start + length steps.old ≤ self.parts }
         ensures { StepsFrom self start steps.new }
     {
-        for i in 0..steps.len() {
-            steps[i] = self.step(start + i as u32);
+        for (i, step) in steps.iter_mut().enumerate() {
+            *step = self.step(start + i as u32);
         }
     }
 }

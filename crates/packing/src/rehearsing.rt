@@ -5,7 +5,7 @@ ghost use Rattle.sheet.specs.Contents.{content};
 ghost use Rattle.packing.specs.Promise.{Promise, Rehearsed};
 
 use crate::packing::pack;
-use crate::sides::has_projected_sides;
+use crate::sides::check_sides;
 use crate::unpacking::unpack;
 use edits::{Answer, Edit, replay_edits};
 use picture::Store;
@@ -37,9 +37,7 @@ fn there_and_back<P: Store, Q: Store<Sample = P::Sample>, R: Store<Sample = P::S
         (packed.new ≡ packed.old) × (restored.new ≡ restored.old)) }
 {
     sheet.facts();
-    if !has_projected_sides(sheet, restored) {
-        return Err(Refusal::UnfitSides);
-    }
+    check_sides(restored, sheet.sides().projected)?;
     pack(sheet, original, packed)?;
     unpack(sheet, packed, restored)
 }
@@ -55,7 +53,7 @@ fn promise_holds<P: Store>(edits: &[Edit], sheet: &Sheet, answers: &Vec<Answer>,
 // Runs the edits from a new sheet, packs the original by the sheet that they leave, and unpacks what was packed. Its
 // contract is the promise, whole.
 pub fn rehearse<P: Store, Q: Store<Sample = P::Sample>, R: Store<Sample = P::Sample>>(
-    heap: Global,
+    alloc: Global,
     edits: &[Edit],
     original: &P,
     packed: &mut Q,
@@ -71,7 +69,7 @@ pub fn rehearse<P: Store, Q: Store<Sample = P::Sample>, R: Store<Sample = P::Sam
         (λ done. OnErr done.moved ((packed.new ≡ packed.old) × (restored.new ≡ restored.old)))
         (λ _. (packed.new ≡ packed.old) × (restored.new ≡ restored.old)) }
 {
-    let (sheet, answers) = replay_edits(heap, edits)?;
+    let (sheet, answers) = replay_edits(alloc, edits)?;
     promise_holds(edits, &sheet, &answers, original);
     let moved = there_and_back(&sheet, original, packed, restored);
     Ok(Rehearsal {

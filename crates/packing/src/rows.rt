@@ -1,110 +1,97 @@
 // What a row carries each way.
-ghost use Rattle.std.specs.Prelude.{◌≡◌, ◌≤◌, if◌then◌else◌};
-ghost use Rattle.geometry.specs.Places.{at};
-ghost use Rattle.geometry.specs.Turns.{turn_of};
-ghost use Rattle.sheet.specs.Serving.{Sided};
-ghost use Rattle.packing.specs.Carries.{Able};
-ghost use Rattle.packing.specs.RowCarries.{pack_carry, unpack_carry, row_carry};
+ghost use Rattle.std.specs.Prelude.{◌≡◌, ◌≤◌, ℕ, Bool};
+ghost use Rattle.std.specs.Bool.{then_some};
+ghost use Rattle.geometry.specs.declared.place.Place.{Place};
+ghost use Rattle.geometry.specs.declared.place.Sides.{Sides};
+ghost use Rattle.sheet.specs.Serving.{covers_place, Sided};
+ghost use Rattle.sheet.specs.declared.row.Row.{Row};
+ghost use Rattle.packing.specs.Carries.{CarryFits, carried};
+ghost use Rattle.packing.specs.Moves.{holds, centre_of, server_of};
+ghost use Rattle.packing.specs.Rows.{LiesIn};
 
 use crate::carry::Carry;
 use crate::course::Course;
-use geometry::{Body, Place, ProjectedRectangle, Turn};
+use geometry::{Rectangle, Sides, Turn};
 use sheet::Row;
 
-// Which way samples go: from the projected picture into the bodies, or from the bodies into the projected picture.
-#[derive(Clone, Copy)]
-pub(crate) enum Way {
-    Pack,
-    Unpack,
+// Which way samples go, and what of each row is carried so.
+pub(crate) trait Way {
+    // the places of the picture written that a row has
+    ghost has: { Row → Place → Bool };
+
+    // the place of the picture read that such a place takes its sample from
+    ghost origin: { Row → Place → Place };
+
+    // the sides of the projected picture, of those of the pictures read and written
+    ghost projected: { Sides ℕ → Sides ℕ → Sides ℕ };
+
+    // and those of the packed one
+    ghost packed: { Sides ℕ → Sides ℕ → Sides ℕ };
+
+    // What a row carries.
+    fn carry(row: Row) -> Carry
+        requires turn { row.turn ≤ 7 }
+        requires sided { Sided row }
+        ensures carries { (p : Place) → carried result p ≡ then_some (has row p) (origin row p) }
+        ensures fits { (from to : Sides ℕ) → LiesIn (projected from to) (packed from to) row → CarryFits result from to };
 }
 
-// The turn of a code that there is.
-fn turn_of(code: u8) -> Turn
-    requires { code ≤ 7 }
-    ensures { result ≡ turn_of code }
-{
-    match Turn::from_code(code) {
-        Ok(turn) => turn,
-        Err(_) => unreachable(),
+// From the projected picture into the bodies.
+pub(crate) struct Packing;
+
+// From the bodies into the projected picture.
+pub(crate) struct Unpacking;
+
+impl Way for Packing {
+    ghost has = { holds };
+
+    ghost origin = { centre_of };
+
+    ghost projected = { λ from to. from };
+
+    ghost packed = { λ from to. to };
+
+    fn carry(row: Row) -> Carry {
+        let turn = Turn::try_from(row.turn).unwrap();
+        let frame = row.projected;
+        let body = Rectangle::from(row.body);
+        let read = turn.field(Sides::from(frame));
+        Carry {
+            from: frame.corner(),
+            to: body.corner(),
+            across: Course::inwards(body.width, read.width, turn.mirrored),
+            down: Course::inwards(body.height, read.height, turn.flipped),
+            crossed: turn.transposed,
+        }
     }
 }
 
-// A pair, exchanged if `on`.
-fn exchanged_if<T>(on: bool, first: T, second: T) -> (T, T)
-    ensures { result ≡ ((if on then second else first), (if on then first else second)) }
-{
-    if on { (second, first) } else { (first, second) }
-}
+impl Way for Unpacking {
+    ghost has = { covers_place };
 
-// The body from the projected rectangle.
-fn pack_carry(row: Row) -> Carry
-    requires turn { row.turn ≤ 7 }
-    requires sided { Sided row }
-    ensures value { result ≡ pack_carry row }
-    ensures across { Able result.across }
-    ensures down { Able result.down }
-{
-    let turn = turn_of(row.turn);
-    let frame = row.projected;
-    let (along, beside) = exchanged_if(turn.transposed, frame.width, frame.height);
-    Carry {
-        from: frame_corner(frame),
-        to: body_corner(row.body),
-        across: Course::inwards(row.body.width, along, turn.mirrored),
-        down: Course::inwards(row.body.height, beside, turn.flipped),
-        crossed: turn.transposed,
-    }
-}
+    ghost origin = { server_of };
 
-// The projected rectangle from the body.
-fn unpack_carry(row: Row) -> Carry
-    requires turn { row.turn ≤ 7 }
-    requires sided { Sided row }
-    ensures value { result ≡ unpack_carry row }
-    ensures across { Able result.across }
-    ensures down { Able result.down }
-{
-    let turn = turn_of(row.turn);
-    let body = row.body;
-    let (along, beside) = exchanged_if(turn.transposed, body.width, body.height);
-    let (along_far, beside_far) = exchanged_if(turn.transposed, turn.mirrored, turn.flipped);
-    Carry {
-        from: body_corner(body),
-        to: frame_corner(row.projected),
-        across: Course::outwards(row.projected.width, along, along_far),
-        down: Course::outwards(row.projected.height, beside, beside_far),
-        crossed: turn.transposed,
-    }
-}
+    ghost projected = { λ from to. to };
 
-// What a row carries, either way.
-pub(crate) fn row_carry(way: Way, row: Row) -> Carry
-    requires turn { row.turn ≤ 7 }
-    requires sided { Sided row }
-    ensures value { result ≡ row_carry way row }
-    ensures across { Able result.across }
-    ensures down { Able result.down }
-{
-    match way {
-        Way::Pack => pack_carry(row),
-        Way::Unpack => unpack_carry(row),
-    }
-}
+    ghost packed = { λ from to. from };
 
-fn frame_corner(frame: ProjectedRectangle) -> Place
-    ensures { result ≡ at frame.left frame.top }
-{
-    Place {
-        x: frame.left,
-        y: frame.top,
-    }
-}
-
-fn body_corner(body: Body) -> Place
-    ensures { result ≡ at body.left body.top }
-{
-    Place {
-        x: body.left as u32,
-        y: body.top as u32,
+    fn carry(row: Row) -> Carry {
+        let turn = Turn::try_from(row.turn).unwrap();
+        let frame = row.projected;
+        let body = Rectangle::from(row.body);
+        let read = turn.field(Sides::from(body));
+        // Where lines come from columns, the far ends change places too.
+        let (far_across, far_down) = if turn.transposed {
+            (turn.flipped, turn.mirrored)
+        } else {
+            (turn.mirrored, turn.flipped)
+        };
+        Carry {
+            from: body.corner(),
+            to: frame.corner(),
+            across: Course::outwards(frame.width, read.width, far_across),
+            down: Course::outwards(frame.height, read.height, far_down),
+            crossed: turn.transposed,
+        }
     }
 }

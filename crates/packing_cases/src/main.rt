@@ -3,20 +3,20 @@
 
 mod stores;
 
-use anyhow::anyhow;
+use anyhow::{Context, bail};
 use geometry::{Place, Sides};
 use packing::{map_claims, pack, unpack};
-use picture::{Mark, Rows, Store};
+use picture::{Mark, Rows, Store, Tiles};
 use refusal::Refusal;
 use rwpk::load;
 use sheet::Sheet;
 use std::str::SplitWhitespace;
-use stores::{pile_of, rows_of, tiles_of};
+use stores::pile_of;
 
 // No run of a case is longer than this.
 const LONGEST: usize = 4096;
 
-// Numbers the places of a store in reading order.
+// Numbers the places of a store in reading order. The count is kept by hand, since it goes on from line to line and wraps.
 fn number_places<S: Store<Sample = u16>>(store: &mut S, first: u16) {
     let mut next = first;
     for y in 0..store.height() {
@@ -35,16 +35,15 @@ fn print_samples<S: Store<Sample = u16>>(
     print!(rt; "{name}")?;
     for y in 0..store.height() {
         for x in 0..store.width() {
-            if let Ok(sample) = store.read(Place { x, y }) {
-                print!(rt; " {sample}")?;
-            }
+            let sample = store.read(Place { x, y })?;
+            print!(rt; " {sample}")?;
         }
     }
     println!(rt; "")?;
     Ok(())
 }
 
-// The number of a refused call goes before what its store then shows.
+// The number of a refused call goes before what its store then shows. A `Result` can have no `Display` of ours.
 fn print_refusal(rt: &HostRuntime, answer: Result<(), Refusal>) -> anyhow::Result<()> {
     if let Err(refusal) = answer {
         print!(rt; "refused {}: ", refusal.number())?;
@@ -68,7 +67,8 @@ fn move_both_ways<P: Store<Sample = u16>, Q: Store<Sample = u16>>(
     print_samples(rt, "unpacked", projected)
 }
 
-// The packed store in the make that is asked for.
+// The packed store in the make that is asked for. No `dyn` can stand for the three, since a store takes any line and so has a
+// generic call.
 fn with_packed<P: Store<Sample = u16>>(
     rt: &HostRuntime,
     sheet: &Sheet,
@@ -76,17 +76,18 @@ fn with_packed<P: Store<Sample = u16>>(
     make: &str,
 ) -> anyhow::Result<()> {
     let mut run = [0u16; LONGEST];
-    let packed = sheet.sides().packed;
-    let sides = Sides {
-        width: packed.width as u32,
-        height: packed.height as u32,
-    };
+    let sides = Sides::from(sheet.sides().packed);
     match make {
-        "rows" => move_both_ways(rt, sheet, projected, &mut rows_of(&mut run, sides)),
-        "tiles" => move_both_ways(rt, sheet, projected, &mut tiles_of(&mut run, sides)),
-        "pile" => move_both_ways(rt, sheet, projected, &mut pile_of(&mut run, sides)),
-        "unfit" => move_both_ways(rt, sheet, projected, &mut rows_of(&mut run, higher(sides))),
-        _ => Err(anyhow!("no such make")),
+        "rows" => move_both_ways(rt, sheet, projected, &mut Rows::of_sides(&mut run, sides)?),
+        "tiles" => move_both_ways(rt, sheet, projected, &mut Tiles::of_sides(&mut run, sides)?),
+        "pile" => move_both_ways(rt, sheet, projected, &mut pile_of(&mut run, sides)?),
+        "unfit" => move_both_ways(
+            rt,
+            sheet,
+            projected,
+            &mut Rows::of_sides(&mut run, higher(sides))?,
+        ),
+        _ => bail!("no such make"),
     }
 }
 
@@ -108,38 +109,42 @@ fn with_both(
     let mut run = [0u16; LONGEST];
     let sides = sheet.sides().projected;
     match projected_make {
-        "rows" => with_packed(rt, sheet, &mut rows_of(&mut run, sides), packed_make),
-        "tiles" => with_packed(rt, sheet, &mut tiles_of(&mut run, sides), packed_make),
-        "pile" => with_packed(rt, sheet, &mut pile_of(&mut run, sides), packed_make),
-        _ => Err(anyhow!("no such make")),
+        "rows" => with_packed(
+            rt,
+            sheet,
+            &mut Rows::of_sides(&mut run, sides)?,
+            packed_make,
+        ),
+        "tiles" => with_packed(
+            rt,
+            sheet,
+            &mut Tiles::of_sides(&mut run, sides)?,
+            packed_make,
+        ),
+        "pile" => with_packed(rt, sheet, &mut pile_of(&mut run, sides)?, packed_make),
+        _ => bail!("no such make"),
     }
 }
 
 fn print_map(rt: &HostRuntime, sheet: &Sheet, make: &str) -> anyhow::Result<()> {
     let mut run = [Mark::Nobody; LONGEST];
-    let packed = sheet.sides().packed;
-    let sides = Sides {
-        width: packed.width as u32,
-        height: packed.height as u32,
-    };
+    let sides = Sides::from(sheet.sides().packed);
     let mut map = Rows::new(&mut run);
-    print_refusal(
-        rt,
-        map.size(if make == "unfit" {
-            higher(sides)
-        } else {
-            sides
-        }),
-    )?;
+    let asked = if make == "unfit" {
+        higher(sides)
+    } else {
+        sides
+    };
+    print_refusal(rt, map.size(asked))?;
     print_refusal(rt, map_claims(sheet, &mut map))?;
     print!(rt; "map")?;
     for y in 0..map.height() {
         for x in 0..map.width() {
-            match map.read(Place { x, y }) {
-                Ok(Mark::Nobody) => print!(rt; " .")?,
-                Ok(Mark::Body(number)) => print!(rt; " {number}")?,
-                Ok(Mark::Band(number)) => print!(rt; " ({number})")?,
-                Err(_) => return Err(anyhow!("a place inside is refused")),
+            // By hand, since a type of another crate can have no `Display` here.
+            match map.read(Place { x, y })? {
+                Mark::Nobody => print!(rt; " .")?,
+                Mark::Body(number) => print!(rt; " {number}")?,
+                Mark::Band(number) => print!(rt; " ({number})")?,
             }
         }
     }
@@ -151,10 +156,7 @@ fn print_map(rt: &HostRuntime, sheet: &Sheet, make: &str) -> anyhow::Result<()> 
 fn bytes_left(rt: &HostRuntime, words: SplitWhitespace) -> anyhow::Result<Vec<u8>> {
     let mut bytes = Vec::new(rt.alloc());
     for word in words {
-        match word.parse() {
-            Ok(byte) => bytes.push(byte)?,
-            Err(_) => return Err(anyhow!("not a byte")),
-        }
+        bytes.push(word.parse().context("not a byte")?)?;
     }
     Ok(bytes)
 }
@@ -162,24 +164,17 @@ fn bytes_left(rt: &HostRuntime, words: SplitWhitespace) -> anyhow::Result<Vec<u8
 fn run_line(rt: &HostRuntime, line: &str) -> anyhow::Result<()> {
     let mut words = line.split_whitespace();
     let (Some(projected_make), Some(packed_make)) = (words.next(), words.next()) else {
-        return Err(anyhow!("a line is two makes and the bytes of a box"));
+        bail!("a line is two makes and the bytes of a box");
     };
     let mut sheet = Sheet::new();
-    if load(&mut sheet, &bytes_left(rt, words)?).is_err() {
-        return Err(anyhow!("a box is refused"));
-    }
+    load(&mut sheet, &bytes_left(rt, words)?)?;
     with_both(rt, &sheet, projected_make, packed_make)?;
     print_map(rt, &sheet, packed_make)
 }
 
-fn run(rt: &HostRuntime) -> anyhow::Result<()> {
+fn main(rt: HostRuntime) -> anyhow::Result<()> {
     for line in rt.lines(rt.alloc()) {
-        let text = line?;
-        run_line(rt, text.as_str())?;
+        run_line(&rt, line?.as_str())?;
     }
     Ok(())
-}
-
-fn main(rt: HostRuntime) -> anyhow::Result<()> {
-    run(&rt)
 }

@@ -1,70 +1,14 @@
--- The two views: each place below is shown at most once, and a put through a view is a put below.
-use Rattle.std.proofs.Common.{◌≡◌, ℕ, ◌+◌, ◌-◌, ◌≤◌, Bool, true, false, cond, ◌&&◌, leb, Ok, Err, sym, refl, ap, ◌∙◌, ap₂, arith}
-use Rattle.std.proofs.lemmas.Bool.{and_parts, and_from, cond-true, cond-false, leb-true, le-leb}
+-- Any view: a put through it is a put below, and what it shows and what it leaves out fix the picture below.
+use Rattle.std.proofs.Common.{◌≡◌, true, Ok, sym, refl, ap, ◌∙◌}
+use Rattle.std.proofs.lemmas.Bool.{cond-true, cond-false}
 use Rattle.geometry.specs.declared.place.Place.{Place}
-use Rattle.geometry.specs.declared.place.Sides.{Sides}
-use Rattle.geometry.specs.declared.turn.Turn.{Turn}
-use Rattle.geometry.specs.Places.{at, inside}
-use Rattle.geometry.specs.Turns.{forwards}
-use Rattle.geometry.proofs.Turning as turning
-use Rattle.picture.specs.declared.window.Frame.{Frame}
+use Rattle.geometry.specs.Places.{inside}
 use Rattle.picture.specs.Picture.{Picture, Sound, painted, putting, shown_by}
-use Rattle.picture.specs.Views.{View, viewed, seen, window_view, turn_view}
+use Rattle.picture.specs.Views.{View, viewed, seen}
 use Rattle.picture.specs.Kept.{KeptBelow}
-use Rattle.picture.specs.Soundness.{Inner}
-use Rattle.picture.proofs.Pictures.{same_picture, place_same, places_differ, some_mapped}
-use Rattle.picture.proofs.Shown.{Inverse, Changed, shown_painted, shown_rest, source_fixed}
-
--- each place shown has a place below of its own
-abbrev pub Backed : View → Type 0
-Backed view = (s : Sides) → Inverse (view.sides s) (view.spot s)
-
-pub window_backed : (f : Frame) → Backed (window_view f)
-window_backed f s =
-    record {
-      has = λ k. past k && inside field (back k);
-      back = back;
-      there = λ k h.
-          let (p, i) = and_parts (past k) (inside field (back k)) h in
-          let (l, t) = and_parts (leb f.left k.x) (leb f.top k.y) p in
-          let across : f.left ≤ k.x = leb-true _ _ l in
-          let down : f.top ≤ k.y = leb-true _ _ t in
-          (i, ap₂ at (omega arith) (omega arith));
-      again = λ q h.
-          let e : back (spot q) ≡ q = ap₂ at (omega arith) (omega arith) in
-          let p : past (spot q) ≡ true =
-          and_from _ _ (le-leb f.left (f.left + q.x) (omega arith)) (le-leb f.top (f.top + q.y) (omega arith)) in
-          (and_from _ _ p (ap (inside field) e ∙ h), e);
-    }
-  where
-    field : Sides
-    field = (window_view f).sides s
-
-    spot : Place → Place
-    spot = (window_view f).spot s
-
-    past : Place → Bool
-    past k = leb f.left k.x && leb f.top k.y
-
-    back : Place → Place
-    back k = at (k.x - f.left) (k.y - f.top)
-
-pub turn_backed : (t : Turn) → Backed (turn_view t)
-turn_backed t s =
-    record {
-      has = inside s;
-      back = forwards t s;
-      there = λ k h. let e = turning.there t s k h in (e.within, e.back);
-      again = λ q h. let e = turning.back t s q h in (e.within, e.again);
-    }
-
-pub granted : {X E : Type 0} (b : Bool) (x y : X) (e : E) → Ok x ≡ cond b (Ok y) (Err e) → (b ≡ true) × (x ≡ y)
-granted true x y e h = (refl, cc)
-granted false x y e h = let z : ◌≡◌ {A = ℕ} 0 1 = cc in absurd (omega arith)
-
-pub refused : {X E : Type 0} (b : Bool) (y : X) (e f : E) → Err e ≡ cond b (Ok y) (Err f) → (b ≡ false) × (e ≡ f)
-refused true y e f h = let z : ◌≡◌ {A = ℕ} 0 1 = cc in absurd (omega arith)
-refused false y e f h = (refl, cc)
+use Rattle.picture.specs.Laws.{Inner, Backed}
+use Rattle.picture.proofs.Pictures.{granted, same_picture, place_same, places_differ, some_mapped}
+use Rattle.picture.proofs.Shown.{Changed, shown_painted, shown_rest, source_fixed}
 
 module _ {A : Type 0} where
   paint_changed : (p : Picture A) → Sound p → (place : Place) (v : A) → inside p.sides place ≡ true →

@@ -1,87 +1,17 @@
--- The two layouts: each place inside has a spot of its own, and a run is fixed by its picture and its rest.
-use Rattle.std.proofs.Common.{◌≡◌, ℕ, zero, suc, ◌+◌, ◌*◌, ◌/◌, ◌%◌, ◌<◌, ◌≤◌, Bool, true, false, cond, List, [], ◌∷◌, length, set, Some, refl, ap, ◌∙◌, ap₂, div-add-mod', arith, length-set}
+-- Any layout: a put inside changes one sample of the run, and a run is fixed by its picture and its rest.
+use Rattle.std.proofs.Common.{◌≡◌, ℕ, zero, suc, ◌<◌, ◌≤◌, Bool, true, false, cond, List, [], ◌∷◌, length, set, Some, sym, refl, ap, ◌∙◌, subst, ap₂, arith, length-set}
 use Rattle.std.specs.List.{slice_get}
-use Rattle.std.proofs.lemmas.Nat.{div-mul-add, mod-mul-add}
 use Rattle.geometry.specs.declared.place.Place.{Place}
 use Rattle.geometry.specs.declared.place.Sides.{Sides}
-use Rattle.geometry.specs.Places.{at, by, inside}
-use Rattle.geometry.proofs.Insides.{within}
+use Rattle.geometry.specs.Places.{by, inside}
 use Rattle.picture.specs.Picture.{painted, shown_by}
-use Rattle.picture.specs.Runs.{Layout, fitting, laid, blocks, row_layout, tile_layout, row_spot, tile_spot}
+use Rattle.picture.specs.Runs.{Layout, fitting, laid}
 use Rattle.picture.specs.Kept.{KeptRun}
-use Rattle.picture.specs.Soundness.{Lawful, laid_room, nth_in, block_within}
-use Rattle.picture.proofs.Shown.{Inverse, Changed, shown_painted, shown_rest, source_fixed}
+use Rattle.picture.specs.Laws.{Inverse, Lawful, Reversible}
+use Rattle.picture.specs.Soundness.{laid_room, nth_in}
+use Rattle.picture.proofs.Shown.{Changed, shown_painted, shown_rest, source_fixed}
 
--- each place of a picture no wider than the layout's width has a spot of its own
-abbrev pub Reversible : Layout → Type 0
-Reversible layout = (w : ℕ) (sides : Sides) → sides.width ≤ w → Inverse sides (layout.spot w)
-
-pub rows_reversible : Reversible row_layout
-rows_reversible w sides narrow =
-    record {
-      has = λ k. inside sides (back k);
-      back = back;
-      there = λ k h. (h, div-add-mod' k w);
-      again = λ q h. (ap (inside sides) (returns q h) ∙ h, returns q h);
-    }
-  where
-    back : ℕ → Place
-    back k = at (k % w) (k / w)
-
-    returns : (q : Place) → inside sides q ≡ true → back (row_spot w q) ≡ q
-    returns q h =
-        let x : q.x < sides.width = (within sides q h).across in
-        let lt : q.x < w = omega arith in
-        ap₂ at (mod-mul-add q.y w q.x lt) (div-mul-add q.y w q.x lt)
-
--- a number by its quotient and its rest
-joined : (a b : ℕ) → b < 8 → ((a * 8 + b) / 8 ≡ a) × ((a * 8 + b) % 8 ≡ b)
-joined a b h = (div-mul-add a 8 b h, mod-mul-add a 8 b h)
-
-pub tiles_reversible : Reversible tile_layout
-tiles_reversible w sides narrow =
-    record {
-      has = λ k. inside sides (back k);
-      back = back;
-      there = λ k h. (h, whole k);
-      again = λ q h. (ap (inside sides) (returns q h) ∙ h, returns q h);
-    }
-  where
-    n : ℕ
-    n = blocks w
-
-    back : ℕ → Place
-    back k = at (k / 64 % n * 8 + k % 64 % 8) (k / 64 / n * 8 + k % 64 / 8)
-
-    whole : (k : ℕ) → tile_spot w (back k) ≡ k
-    whole k =
-        let across = joined (k / 64 % n) (k % 64 % 8) (omega arith) in
-        let down = joined (k / 64 / n) (k % 64 / 8) (omega arith) in
-        ap₂ (λ b i. b * 64 + i)
-        (ap₂ (λ d a. d * n + a) down.0 across.0 ∙ div-add-mod' (k / 64) n)
-        (ap₂ (λ d a. d * 8 + a) down.1 across.1 ∙ div-add-mod' (k % 64) 8)
-        ∙ div-add-mod' k 64
-
-    returns : (q : Place) → inside sides q ≡ true → back (tile_spot w q) ≡ q
-    returns q h =
-        let x : q.x < sides.width = (within sides q h).across in
-        let lt : q.x < w = omega arith in
-        let block : ℕ = q.y / 8 * n + q.x / 8 in
-        let inner : ℕ = q.y % 8 * 8 + q.x % 8 in
-        let small : inner < 64 = omega arith in
-        let low : q.x % 8 < 8 = omega arith in
-        let column : q.x / 8 < n = block_within q.x w lt in
-        let b = div-mul-add block 64 inner small in
-        let i = mod-mul-add block 64 inner small in
-        ap₂ at
-        (ap₂ (λ u v. u % n * 8 + v % 8) b i
-        ∙ ap₂ (λ u v. u * 8 + v) (mod-mul-add (q.y / 8) n (q.x / 8) column) (mod-mul-add (q.y % 8) 8 (q.x % 8) low)
-        ∙ div-add-mod' q.x 8)
-        (ap₂ (λ u v. u / n * 8 + v / 8) b i
-        ∙ ap₂ (λ u v. u * 8 + v) (div-mul-add (q.y / 8) n (q.x / 8) column) (div-mul-add (q.y % 8) 8 (q.x % 8) low)
-        ∙ div-add-mod' q.y 8)
-
-pub fitting_inverse : (layout : Layout) → Reversible layout → (sides : Sides) (n : ℕ) →
+pub fitting_inverse : (layout : Layout) → Reversible layout → (sides : Sides ℕ) (n : ℕ) →
     Inverse (fitting layout sides n) (layout.spot sides.width)
 fitting_inverse layout reversible sides n = reversible sides.width (fitting layout sides n) (narrow (layout.takes sides n))
   where
@@ -109,7 +39,7 @@ module _ {A : Type 0} where
   nth_same (x ∷ xs) (y ∷ ys) h = let e = h 0 in let f : y ≡ x = cc in ap₂ ◌∷◌ f (nth_same xs ys (λ k. h (suc k)))
 
   -- a put inside leaves the picture painted, and the rest of the run
-  module _ (layout : Layout) (lawful : Lawful layout) (reversible : Reversible layout) (sides : Sides) (run : List A)
+  module _ (layout : Layout) (lawful : Lawful layout) (reversible : Reversible layout) (sides : Sides ℕ) (run : List A)
       (place : Place) (v : A) (h : inside (fitting layout sides (length run)) place ≡ true) where
     changed : Changed (slice_get run) (slice_get (set run (layout.spot sides.width place) v)) (layout.spot sides.width place) v
     changed =
@@ -131,8 +61,16 @@ module _ {A : Type 0} where
           rest = shown_rest _ _ _ _ place v h changed;
         }
 
+    -- so it is at the spot that the place was found at
+    pub laid_put : (spot : ℕ) → spot ≡ layout.spot sides.width place →
+        (laid layout sides (set run spot v) ≡ painted (laid layout sides run) place v) × KeptRun layout sides run sides (set run spot v)
+    laid_put spot e = (
+      ap (λ k. laid layout sides (set run k v)) e ∙ laid_painted,
+      subst (λ k. KeptRun layout sides run sides (set run k v)) (sym e) laid_rest,
+    )
+
   -- two runs that keep the same and show the same are the same
-  pub run_fixed : (layout : Layout) → Reversible layout → (s t : Sides) (xs ys : List A) → KeptRun layout s xs t ys →
+  pub run_fixed : (layout : Layout) → Reversible layout → (s t : Sides ℕ) (xs ys : List A) → KeptRun layout s xs t ys →
       laid layout s xs ≡ laid layout t ys → (t ≡ s) × (ys ≡ xs)
   run_fixed layout reversible s t xs ys kept same =
       let moved : laid layout t ys ≡ shown_by (fitting layout s (length xs)) (layout.spot s.width) (slice_get ys) =

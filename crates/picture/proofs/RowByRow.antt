@@ -1,15 +1,15 @@
 -- The places that a copy has taken after some samples of a row, and after some rows.
-use Rattle.std.proofs.Common.{◌≡◌, ℕ, ◌+◌, Bool, true, false, cond, ◌&&◌, ◌||◌, eqb, ltb, Some, None, Option, sym, refl, ap, ◌∙◌, ap₂, arith}
+use Rattle.std.proofs.Common.{◌≡◌, ℕ, ◌+◌, Bool, true, false, cond, ◌&&◌, ◌||◌, eqb, ltb, Some, Option, refl, ap, ◌∙◌, ap₂, arith}
 use Rattle.std.specs.Bool.{then_some}
 use Rattle.std.specs.Option.{option_or}
 use Rattle.std.proofs.lemmas.Bool.{and_parts, and_from, eqb-true, lt-ltb}
 use Rattle.std.proofs.lemmas.Bool.Decides.{nat_tests}
 use Rattle.geometry.specs.declared.place.Place.{Place}
-use Rattle.geometry.specs.Places.{at, by, inside}
-use Rattle.picture.specs.Picture.{Picture, Sound, same_place}
-use Rattle.picture.specs.Draws.{taken, drawn}
+use Rattle.geometry.specs.Places.{at, by}
+use Rattle.picture.specs.Picture.{Picture, same_place}
+use Rattle.picture.specs.Draws.{taken}
 use Rattle.picture.specs.Copies.{same_sides, row_to, rows_to}
-use Rattle.picture.proofs.Pictures.{same_picture, one_place, none_of}
+use Rattle.picture.proofs.Pictures.{one_place}
 
 when_cases : (b c e : Bool) (u w : Place) → (e ≡ true → (b ≡ true) × (u ≡ w)) → (e ≡ false → b ≡ c) →
     then_some b u ≡ cond e (Some w) (then_some c u)
@@ -45,13 +45,3 @@ module _ {A : Type 0} where
   sides_same p q h =
       let (w, d) = and_parts (eqb p.sides.width q.sides.width) (eqb p.sides.height q.sides.height) h in
       ap₂ by (eqb-true p.sides.width q.sides.width w) (eqb-true p.sides.height q.sides.height d)
-
-  -- every row
-  pub drawn_all : (p q : Picture A) → Sound p → Sound q → p.sides ≡ q.sides → drawn (rows_to p.sides.width p.sides.height) p q ≡ p
-  drawn_all p q sp sq e =
-      same_picture _ _ (sym e)
-      (λ i. all_at (inside p.sides i) i p (q.at i) (p.at i) refl
-      (λ b.
-      let here : p.at i ≡ None = none_of _ (sp.full i ∙ b) in
-      let there : q.at i ≡ None = none_of _ (sq.full i ∙ ap (λ s. inside s i) (sym e) ∙ b) in
-      there ∙ sym here))

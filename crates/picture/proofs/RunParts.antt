@@ -1,21 +1,17 @@
--- A run of samples that is filled from its start, or of which a part is written.
-use Rattle.std.proofs.Common.{◌≡◌, ℕ, zero, suc, ◌+◌, ◌-◌, ◌<◌, ◌≤◌, Bool, true, false, cond, ltb, List, [], ◌∷◌, ◌++◌, length, take, drop, set, Some, Option, sym, refl, ap, ◌∙◌, ap₂, zero-add, arith, below_more}
+-- A run of samples of which a part is written.
+use Rattle.std.proofs.Common.{◌≡◌, ℕ, zero, suc, ◌+◌, ◌-◌, ◌<◌, ◌≤◌, Bool, true, false, cond, ltb, List, [], ◌∷◌, ◌++◌, length, take, drop, Some, Option, sym, refl, ap, ◌∙◌, arith}
 use Rattle.std.specs.List.{slice_get}
 use Rattle.std.proofs.lemmas.Bool.{lt-ltb, le-ltb, both_ways, cond-true, cond-false}
 use Rattle.std.proofs.lemmas.Bool.Decides.{nat_tests}
 use Rattle.geometry.specs.Boxes.{lies}
-use Rattle.picture.specs.Lines.{Given, Written}
-use Rattle.picture.proofs.Layouts.{nth_set_same, nth_set_other}
+use Rattle.picture.specs.Lines.{Given}
 use Rattle.picture.proofs.Stretches.{lies_on}
 
-module _ {A : Type 0} where
-  -- one sample more
-  pub given_more : (run : List A) (i : ℕ) (v : A) (held : ℕ → Option A) → i < length run → Given i held run → held i ≡ Some v →
-      Given (i + 1) held (set run i v)
-  given_more run i v held lt before here =
-      below_more (λ k. slice_get (set run i v) k ≡ held k) i (λ k h. nth_set_other run i k v (λ e. omega arith) ∙ before k h)
-      (nth_set_same run i v lt ∙ sym here)
+-- a run is another of which the n samples from spot k on were written
+abbrev pub Written : {A : Type 0} → ℕ → ℕ → (ℕ → Option A) → List A → List A → Type 0
+Written k n held from to = (j : ℕ) → slice_get to j ≡ cond (lies k (k + n) j) (held (j - k)) (slice_get from j)
 
+module _ {A : Type 0} where
   same_ways : (b c : Bool) (u w o : Option A) → b ≡ c → (b ≡ true → u ≡ w) → cond b u o ≡ cond c w o
   same_ways true true u w o e h = h refl
   same_ways true false u w o e h = absurd (both_ways true e refl)
@@ -62,11 +58,3 @@ module _ {A : Type 0} where
       let lo : k ≤ j = on.from in
       let hi : j < k + length ys = on.before in
       given (j - k) (omega arith))
-
-  -- a part that took a whole line
-  pub written_whole : (k k' n n' : ℕ) (held : ℕ → Option A) (xs ys : List A) → k ≡ k' → n ≡ n' →
-      Written k n (λ i. held (0 + i)) xs ys → Written k' n' held xs ys
-  written_whole k k' n n' held xs ys ek en written j =
-      written j
-      ∙ ap₂ (λ a b. cond (lies a (a + b) j) (held (0 + (j - a))) (slice_get xs j)) ek en
-      ∙ ap (λ a. cond (lies k' (k' + n') j) (held a) (slice_get xs j)) (zero-add (j - k'))

@@ -1,4 +1,5 @@
 -- Pictures shown from a source: what one change of the source does to them, and that picture and remainder fix the source.
+use Rattle.std.specs.Prelude.{ℕ}
 use Rattle.std.proofs.Common.{◌≡◌, Bool, true, false, cond, is_some, Some, None, Option, sym, refl, ap, ◌∙◌}
 use Rattle.std.specs.Option.{option_map}
 use Rattle.std.proofs.lemmas.Bool.{both_ways, cond-true}
@@ -7,14 +8,8 @@ use Rattle.geometry.specs.declared.place.Sides.{Sides}
 use Rattle.geometry.specs.Places.{inside}
 use Rattle.picture.specs.Picture.{Picture, same_place, painted, shown_by}
 use Rattle.picture.specs.Kept.{UnshownSame}
+use Rattle.picture.specs.Laws.{Inverse}
 use Rattle.picture.proofs.Pictures.{same_picture, one_place, place_same, some_mapped}
-
--- which spots are shown and as which place; so places inside have spots apart
-pub record Inverse {X : Type 0} (sides : Sides) (spot : Place → X) : Type 0 where
-  pub has : X → Bool
-  pub back : X → Place
-  pub there : (k : X) → has k ≡ true → (inside sides (back k) ≡ true) × (spot (back k) ≡ k)
-  pub again : (q : Place) → inside sides q ≡ true → (has (spot q) ≡ true) × (back (spot q) ≡ q)
 
 -- a source in which one spot took another sample
 pub record Changed {A X : Type 0} (from to : X → Option A) (k : X) (v : A) : Type 0 where
@@ -30,7 +25,7 @@ at_step true false from to v h k = k refl refl
 at_step false true from to v h k = refl
 at_step false false from to v h k = refl
 
-module _ {A X : Type 0} (sides : Sides) (spot : Place → X) (from to : X → Option A) where
+module _ {A X : Type 0} (sides : Sides ℕ) (spot : Place → X) (from to : X → Option A) where
   -- a put through what is shown
   pub shown_painted : Inverse sides spot → (place : Place) (v : A) → inside sides place ≡ true → Changed from to (spot place) v →
       shown_by sides spot to ≡ painted (shown_by sides spot from) place v

@@ -1,7 +1,7 @@
 -- A stretch of a line that is written place after place, piece after piece, or at once where the source keeps it together.
 use Rattle.std.proofs.Common.{◌≡◌, ℕ, ◌+◌, ◌-◌, ◌^◌, ◌<◌, ◌≤◌, Bool, true, false, cond, eqb, ltb, leb, is_some, Some, None, Option, sym, refl, ap, ◌∙◌, ap₂, arith}
 use Rattle.std.specs.Option.{option_map}
-use Rattle.std.proofs.lemmas.Bool.{and_parts, and_from, eqb-true, eq-eqb, leb-true, le-leb, ltb-true, lt-ltb, both_ways, cond-false}
+use Rattle.std.proofs.lemmas.Bool.{false_from_ne_true, and_parts, and_from, eqb-true, eq-eqb, leb-true, le-leb, ltb-true, lt-ltb, both_ways, cond-false}
 use Rattle.std.proofs.lemmas.Bool.Decides.{nat_tests}
 use Rattle.geometry.specs.declared.place.Place.{Place}
 use Rattle.geometry.specs.declared.place.Sides.{Sides}
@@ -10,9 +10,9 @@ use Rattle.geometry.specs.Places.{at, inside}
 use Rattle.geometry.proofs.Insides.{within, inside_from}
 use Rattle.picture.specs.Picture.{Picture, Sound, same_place, painted, shown_by}
 use Rattle.picture.specs.Kept.{UnshownSame}
+use Rattle.picture.specs.Laws.{Inverse, Together}
 use Rattle.picture.specs.Lines.{on_stretch, lined}
 use Rattle.picture.proofs.Pictures.{same_picture, some_mapped}
-use Rattle.picture.proofs.Shown.{Inverse}
 
 -- what the test of a stretch says
 pub record On (lo n k : ℕ) : Type 0 where
@@ -56,14 +56,6 @@ module _ {A : Type 0} where
   more_at true b c u o v h k =
       some_mapped (cond b u o) v (h refl).2 ∙ sym (h refl).1 ∙ ap (λ a. cond a u o) (sym (h refl).0)
   more_at false b c u o v h k = ap (λ a. cond a u o) (k refl)
-
-  -- no place yet
-  pub lined_none : (p : Picture A) (place : Place) (f : ℕ → Option A) → p ≡ lined p place 0 f
-  lined_none p place f =
-      same_picture _ _ refl
-      (λ q.
-      let no : on_stretch place 0 q ≡ false = grind (arith, nat_tests) in
-      sym (cond-false (on_stretch place 0 q) (f (q.x - place.x)) (p.at q) no))
 
   -- one place more
   pub lined_more : (p : Picture A) (place : Place) (n : ℕ) (f : ℕ → Option A) (v : A) → Sound (lined p place n f) →
@@ -117,11 +109,7 @@ line_at true false m r u v o h k l = h ∙ ap (λ a. cond a u o) (k refl)
 line_at false true m r u v o h k l = absurd (both_ways false refl (l refl).0)
 line_at false false m r u v o h k l = refl
 
--- the spots of a stretch follow each other
-abbrev pub Together : (Place → ℕ) → Place → ℕ → Type 0
-Together spot place n = (k : ℕ) → k < n → spot (at (place.x + k) place.y) ≡ spot place + k
-
-module _ (sides : Sides) (spot : Place → ℕ) (inverse : Inverse sides spot) (place : Place) (n : ℕ) (together : Together spot place n)
+module _ (sides : Sides ℕ) (spot : Place → ℕ) (inverse : Inverse sides spot) (place : Place) (n : ℕ) (together : Together spot place n)
     (room : place.x + n ≤ sides.width) (row : place.y < sides.height) where
   stretch_spot : (q : Place) → OnStretch place n q → spot q ≡ spot place + (q.x - place.x)
   stretch_spot q on =
@@ -175,17 +163,11 @@ module _ (sides : Sides) (spot : Place → ℕ) (inverse : Inverse sides spot) (
 
     -- and what is not shown stays
     pub shown_line_rest : UnshownSame sides spot from to
-    shown_line_rest = λ k free. written k ∙ cond-false _ _ _ (go k free (lies (spot place) (spot place + n) k) refl)
-      where
-        go : (k : ℕ) → ((q : Place) → inside sides q ≡ true → spot q ≡ k → ⊥) → (b : Bool) →
-            lies (spot place) (spot place + n) k ≡ b → lies (spot place) (spot place + n) k ≡ false
-        go k free true e =
-            let on = lies_on (spot place) n k e in
-            let lo : spot place ≤ k = on.from in
-            let hi : k < spot place + n = on.before in
-            let below : k - spot place < n = omega arith in
-            let back : spot place + (k - spot place) ≡ k = omega arith in
-            absurd
-            (free (at (place.x + (k - spot place)) place.y) (stretch_inside (k - spot place) below)
-            (together (k - spot place) below ∙ back))
-        go k free false e = e
+    shown_line_rest = λ k free. written k ∙ cond-false _ _ _ (false_from_ne_true _ (λ e.
+        let on = lies_on (spot place) n k e in
+        let lo : spot place ≤ k = on.from in
+        let hi : k < spot place + n = on.before in
+        let below : k - spot place < n = omega arith in
+        let back : spot place + (k - spot place) ≡ k = omega arith in
+        free (at (place.x + (k - spot place)) place.y) (stretch_inside (k - spot place) below)
+        (together (k - spot place) below ∙ back)))

@@ -1,5 +1,5 @@
 -- What a store keeps beside the picture that it shows.
-use Rattle.std.specs.Prelude.{◌≡◌, true, List, length, Option, ◌≢◌}
+use Rattle.std.specs.Prelude.{◌≡◌, true, List, length, Option, ◌≢◌, ℕ}
 use Rattle.std.specs.List.{slice_get}
 use Rattle.geometry.specs.declared.place.Place.{Place}
 use Rattle.geometry.specs.declared.place.Sides.{Sides}
@@ -14,11 +14,11 @@ pub record Keeps {S : Type 0} (kept : S → S → Type 0) : Type 0 where
   pub chain : (s t u : S) → kept s t → kept t u → kept s u
 
 -- two sources agree at each spot that no place inside has
-abbrev pub UnshownSame : {A X : Type 0} → Sides → (Place → X) → (X → Option A) → (X → Option A) → Type 0
+abbrev pub UnshownSame : {A X : Type 0} → Sides ℕ → (Place → X) → (X → Option A) → (X → Option A) → Type 0
 UnshownSame {A} {X} sides spot from to = (k : X) → ((q : Place) → inside sides q ≡ true → spot q ≢ k) → to k ≡ from k
 
 -- the same sides and length, and the same samples where the picture keeps none
-pub record KeptRun {A : Type 0} (layout : Layout) (sides : Sides) (run : List A) (sides' : Sides) (run' : List A) : Type 0 where
+pub record KeptRun {A : Type 0} (layout : Layout) (sides : Sides ℕ) (run : List A) (sides' : Sides ℕ) (run' : List A) : Type 0 where
   pub same_sides : sides' ≡ sides
   pub same_length : length run' ≡ length run
   pub rest : UnshownSame (fitting layout sides (length run)) (layout.spot sides.width) (slice_get run) (slice_get run')

@@ -4,9 +4,12 @@ pub mod Draws
 pub mod Kept
 pub mod KeptLaws
 pub mod KeptSteps
+pub mod Laws
+pub mod LayoutLaws
 pub mod Lines
 pub mod Picture
 pub mod Runs
 pub mod Soundness
 pub mod Stores
+pub mod ViewLaws
 pub mod Views

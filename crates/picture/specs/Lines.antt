@@ -16,10 +16,6 @@ Full n held = (i : ℕ) → i < n → is_some (held i) ≡ true
 abbrev pub Given : {A : Type 0} → ℕ → (ℕ → Option A) → List A → Type 0
 Given n held run = (i : ℕ) → i < n → slice_get run i ≡ held i
 
--- a run is another of which the n samples from spot k on were written
-abbrev pub Written : {A : Type 0} → ℕ → ℕ → (ℕ → Option A) → List A → List A → Type 0
-Written k n held from to = (j : ℕ) → slice_get to j ≡ cond (lies k (k + n) j) (held (j - k)) (slice_get from j)
-
 -- the place k steps on along a track
 abbrev pub along : Track → ℕ → Place
 along t k = cond t.down (at t.start.x (t.start.y + k)) (at (t.start.x + k) t.start.y)
@@ -33,7 +29,7 @@ abbrev pub picked : {A : Type 0} → Picture A → Track → List ℕ → ℕ �
 picked p t steps i = p.at (stepped t steps i)
 
 -- the place of each step lies inside
-abbrev pub StepsInside : Sides → Track → List ℕ → Type 0
+abbrev pub StepsInside : Sides ℕ → Track → List ℕ → Type 0
 StepsInside sides t steps = (i : ℕ) → i < length steps → inside sides (stepped t steps i) ≡ true
 
 -- whether q is one of the n places of a line from a place on

@@ -1,5 +1,5 @@
 -- What a picture store means: its sides, and one sample at each place inside them.
-use Rattle.std.specs.Prelude.{◌≡◌, ◌^◌, ◌<◌, Bool, cond, ◌&&◌, is_some, None, Ok, Err, Option, Result, ◌==◌}
+use Rattle.std.specs.Prelude.{◌≡◌, ◌^◌, ◌<◌, Bool, cond, ◌&&◌, is_some, None, Ok, Err, Option, Result, ◌==◌, ℕ}
 use Rattle.std.specs.Option.{option_map, ok_or}
 use Rattle.refusal.specs.declared.Refusal.{Refusal}
 use Rattle.refusal.specs.declared.Refusal.TheVariants.{PlaceOutside}
@@ -9,7 +9,7 @@ use Rattle.geometry.specs.Places.{inside}
 
 -- sides, and what stands at each place: None outside
 pub record Picture (A : Type 0) : Type 0 where
-  pub sides : Sides
+  pub sides : Sides ℕ
   pub at : Place → Option A
 
 -- sides of 32 bits, and a sample at each place inside and at no other
@@ -36,5 +36,5 @@ abbrev pub putting : {A : Type 0} → Picture A → Place → Result (Unit {0}) 
 putting p place = cond (inside p.sides place) (Ok tt) (Err PlaceOutside)
 
 -- the picture of these sides that shows at each place what a source has at that place's spot
-abbrev pub shown_by : {A X : Type 0} → Sides → (Place → X) → (X → Option A) → Picture A
+abbrev pub shown_by : {A X : Type 0} → Sides ℕ → (Place → X) → (X → Option A) → Picture A
 shown_by sides spot source = record { sides = sides; at = λ q. cond (inside sides q) (source (spot q)) None }

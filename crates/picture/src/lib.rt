@@ -1,8 +1,11 @@
 // Picture stores: what a store means, two bottoms over a lent run, two layers over any store, and a copy between stores.
 #![tactic(auto)]
 
+mod bottom;
 mod copying;
 mod laws;
+mod layer;
+mod layout;
 mod line;
 mod mark;
 mod picked;
@@ -12,6 +15,7 @@ mod store;
 mod tiles;
 mod track;
 mod turned;
+mod view;
 mod window;
 
 pub use copying::copy;

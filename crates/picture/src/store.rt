@@ -44,20 +44,21 @@ pub trait Store {
         ensures untouched { inside (shown self.old).sides place ≡ false →
             self.new ≡ self.old };
 
-    // Reads the places so many steps on, one for each of the steps. A store that keeps its samples in a run does better.
+    // Reads the places so many steps on, one for each of the steps. A store that keeps its samples in a run does better. Track,
+    // steps and room stay apart, since one table of steps serves many tracks.
     fn gather(&self, track: Track, steps: &[u32], out: &mut [Self::Sample])
         requires long { length out.old ≡ length steps.now }
         requires within { StepsInside (shown self.now).sides track steps.now }
         ensures { Given (length steps.now)
             (picked (shown self.now) track steps.now) out.new }
     {
-        for i in 0..steps.len() {
-            let place = track.place(steps[i]);
-            out[i] = self.read(place).unwrap();
+        // by number, for the reason that stands beside `pick`
+        for (i, &step) in steps.iter().enumerate() {
+            out[i] = self.read(track.place(step)).unwrap();
         }
     }
 
-    // Puts the samples of a line from a place on, along the place's own line.
+    // Puts the samples of a line from a place on, along the place's own line, by number, since a line is no slice.
     fn put_line<L: Line<Sample = Self::Sample>>(&mut self, place: Place, line: &L)
         requires across { place.x + L.Line.long line.now ≤ (shown self.old).sides.width }
         requires down { place.y < (shown self.old).sides.height }

@@ -5,6 +5,7 @@ use refusal::Refusal;
 use std::fmt::Debug;
 use std::io;
 
+// By hand, since a `Result` can have no `Display` of ours.
 pub(crate) fn print_answer(
     rt: &HostRuntime,
     call: &str,

@@ -4,14 +4,12 @@
 ghost use Rattle.std.specs.Prelude.{◌≡◌, ◌==◌, ◌↔◌, IsTrue, Some};
 ghost use Rattle.refusal.specs.Numbers.{number, NumbersDiffer};
 ghost use Rattle.refusal.specs.Sentences.{sentence};
-ghost use Rattle.std.specs.Cmp.Rules.{comparing};
-ghost use Rattle.std.proofs.Common.{rules};
-ghost use Rattle.std.specs.Cmp as Keys;
 
+use std::error::Error;
 use std::fmt;
 
 // A refusal returns its number and changes nothing. docs/REFUSALS.md says which call gives which.
-#[derive(Clone, Copy, Debug, Eq)]
+#[derive(Clone, Copy, Debug, PartialEq, Eq)]
 pub enum Refusal {
     InputEnds = 1,
     SizeDiffers = 2,
@@ -45,6 +43,14 @@ impl Refusal {
         ensures { result ≡ number self }
     {
         self as u8
+    }
+
+    // Whether it is this refusal and no other, which is also where the two numbers are equal.
+    pub fn is(self, other: Refusal) -> bool
+        ensures computed { result ≡ (number self == number other) }
+        ensures decides { IsTrue result ↔ (self ≡ other) }
+    {
+        self == other
     }
 
     // The refusal in one plain sentence.
@@ -88,19 +94,7 @@ impl fmt::Display for Refusal {
     }
 }
 
-// Equal where the numbers are: derived code would tell a proof nothing at this many variants.
-impl PartialEq for Refusal {
-    ghost eq = { λ a b. number a == number b };
-
-    ghost laws = { Keys.partial_equiv_from_equiv (Prim.search (comparing, rules)) };
-
-    fn eq(&self, other: &Refusal) -> bool
-        ensures computed { result ≡ (number self.now == number other.now) }
-        ensures decides { IsTrue result ↔ (self.now ≡ other.now) }
-    {
-        self.number() == other.number()
-    }
-}
+impl Error for Refusal {}
 
 // No two refusals share a number.
 pub fn numbers_differ()

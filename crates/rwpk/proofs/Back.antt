@@ -3,18 +3,17 @@ use Rattle.std.proofs.Common.{◌≡◌, ℕ, ◌+◌, ◌*◌, ◌/◌, ◌%◌
 use native.Mathlib.Nat.{div-div-eq-div-mul}
 use Rattle.std.proofs.lemmas.Bool.{cond-true, cond-false, cases_Bool, ltb-false, eqb-true, eqb-false, cond_both, le-ltb, or_from}
 use Rattle.refusal.specs.declared.Refusal.TheVariants.{InputEnds, EmptySide, ReservedBit, PackingType, GuardBands as BandFault}
-use Rattle.geometry.specs.declared.place.Body.{Body}
-use Rattle.geometry.specs.declared.place.ProjectedRectangle.{ProjectedRectangle}
+use Rattle.geometry.specs.declared.place.Rectangle.{Rectangle}
 use Rattle.sheet.specs.declared.row.FourSides.{FourSides}
 use Rattle.sheet.specs.declared.row.GuardBands.{GuardBands}
 use Rattle.sheet.specs.declared.row.Row.{Row}
 use Rattle.sheet.specs.Rules.{all_zero, over_four, bad_bands}
 use Rattle.rwpk.specs.declared.fault.Fault.{Fault}
-use Rattle.rwpk.specs.Bytes.{word_bytes, projected_bytes, body_bytes, bytes_if, flag_byte, row_bytes}
+use Rattle.rwpk.specs.Bytes.{word_bytes, rectangle_bytes, bytes_if, flag_byte, row_bytes}
 use Rattle.rwpk.specs.Fields.{word_of, field, refused_at}
-use Rattle.rwpk.specs.Laws.{Bytes, Fits, ProjectedFits, BodyFits, SizesFit, RowFits}
+use Rattle.rwpk.specs.Laws.{Bytes, Fits, RectangleFits, SizesFit, RowFits}
 use Rattle.rwpk.specs.Loading.{Faultless}
-use Rattle.rwpk.specs.Rows.{side_at, flag_at, projected_at, turn_at, body_at, four_sides, sizes_at, flag_of, kinds_of, kinds_at, bands_at, bands_if, row_at}
+use Rattle.rwpk.specs.Rows.{side_at, flag_at, rectangle_at, turn_at, four_sides, sizes_at, flag_of, kinds_of, kinds_at, bands_at, bands_if, row_at}
 use Rattle.rwpk.proofs.Chains.{granted, passed, same_ok}
 use Rattle.rwpk.proofs.Stands.{Stands, join}
 use Rattle.rwpk.proofs.Numbers.{bytes_take, bytes_drop, word_back, word_small, word_long}
@@ -88,39 +87,22 @@ module _ (input : List ℕ) (small : Bytes input) where
         (la, lb, lc, ld),
       )
 
-  record ProjectedBack (p : ℕ) (r : ProjectedRectangle) : Type 0 where
-    stand : Stands (projected_bytes r) input p
-    fits : ProjectedFits r
+  record RectangleBack (n p : ℕ) (r : Rectangle ℕ) : Type 0 where
+    stand : Stands (rectangle_bytes (word_bytes n) r) input p
+    fits : RectangleFits n r
     wide : eqb r.width 0 ≡ false
     high : eqb r.height 0 ≡ false
 
-  projected_back : (p : ℕ) (r : ProjectedRectangle) → projected_at input p ≡ Ok r → ProjectedBack p r
-  projected_back p r e =
-      let (w, fw, e1) = granted (side_at 4 input p) _ r (sym e) in
-      let (h, fh, e2) = granted (side_at 4 input (p + 4)) _ r e1 in
-      let (t, ft, e3) = granted (field 4 input (p + 8)) _ r e2 in
-      let (l, fl, e4) = granted (field 4 input (p + 12)) _ r e3 in
-      let (gw, zw) = side_back input 4 p w fw in
-      let (gh, zh) = side_back input 4 (p + 4) h fh in
-      let (s, f) = four_stand 4 p (p + 4) (p + 8) (p + 12) w h t l refl (omega arith) (omega arith) gw gh ft fl in
-      subst (λ z. ProjectedBack p z) (sym (same_ok e4)) (record { stand = s; fits = f; wide = zw; high = zh })
-
-  record BodyBack (p : ℕ) (b : Body) : Type 0 where
-    stand : Stands (body_bytes b) input p
-    fits : BodyFits b
-    wide : eqb b.width 0 ≡ false
-    high : eqb b.height 0 ≡ false
-
-  body_back : (p : ℕ) (b : Body) → body_at input p ≡ Ok b → BodyBack p b
-  body_back p b e =
-      let (w, fw, e1) = granted (side_at 2 input p) _ b (sym e) in
-      let (h, fh, e2) = granted (side_at 2 input (p + 2)) _ b e1 in
-      let (t, ft, e3) = granted (field 2 input (p + 4)) _ b e2 in
-      let (l, fl, e4) = granted (field 2 input (p + 6)) _ b e3 in
-      let (gw, zw) = side_back input 2 p w fw in
-      let (gh, zh) = side_back input 2 (p + 2) h fh in
-      let (s, f) = four_stand 2 p (p + 2) (p + 4) (p + 6) w h t l refl (omega arith) (omega arith) gw gh ft fl in
-      subst (λ z. BodyBack p z) (sym (same_ok e4)) (record { stand = s; fits = f; wide = zw; high = zh })
+  rectangle_back : (n p : ℕ) (r : Rectangle ℕ) → rectangle_at n input p ≡ Ok r → RectangleBack n p r
+  rectangle_back n p r e =
+      let (w, fw, e1) = granted (side_at n input p) _ r (sym e) in
+      let (h, fh, e2) = granted (side_at n input (p + n)) _ r e1 in
+      let (t, ft, e3) = granted (field n input (p + 2 * n)) _ r e2 in
+      let (l, fl, e4) = granted (field n input (p + 3 * n)) _ r e3 in
+      let (gw, zw) = side_back input n p w fw in
+      let (gh, zh) = side_back input n (p + n) h fh in
+      let (s, f) = four_stand n p (p + n) (p + 2 * n) (p + 3 * n) w h t l refl (omega arith) (omega arith) gw gh ft fl in
+      subst (λ z. RectangleBack n p z) (sym (same_ok e4)) (record { stand = s; fits = f; wide = zw; high = zh })
 
   pub byte_stands : (p b c : ℕ) → field 1 input p ≡ Ok b → c ≡ b → Stands (c ∷ []) input p
   byte_stands p b c f e =
@@ -224,23 +206,23 @@ module _ (input : List ℕ) (small : Bytes input) where
   pub row_back : (p : ℕ) (r : Row) → Ok r ≡ row_at input p → RowBack p r
   row_back p r e =
       let (f, ff, e1) = granted (flag_at input p) _ r e in
-      let (q, fq, e2) = granted (projected_at input (p + 1)) _ r e1 in
+      let (q, fq, e2) = granted (rectangle_at 4 input (p + 1)) _ r e1 in
       let (t, ft, e3) = granted (turn_at input (p + 17)) _ r e2 in
-      let (b, fb, e4) = granted (body_at input (p + 18)) _ r e3 in
+      let (b, fb, e4) = granted (rectangle_at 2 input (p + 18)) _ r e3 in
       let (o, fo, e5) = granted (bands_if f input (p + 26)) _ r e4 in
       let bo = if_back f (p + 26) o fo in
       let (st, low) = turn_back (p + 17) t ft in
-      let bq = projected_back (p + 1) q fq in
-      let bb = body_back (p + 18) b fb in
+      let bq = rectangle_back 4 (p + 1) q fq in
+      let bb = rectangle_back 2 (p + 18) b fb in
       let sf : Stands (flag_byte o ∷ []) input p = subst (λ z. Stands (z ∷ []) input p) (sym bo.flagged) (flag_back p f ff) in
-      let rest : List ℕ = (t * 32 ∷ []) ++ (body_bytes b ++ bytes_if o) in
+      let rest : List ℕ = (t * 32 ∷ []) ++ (rectangle_bytes (word_bytes 2) b ++ bytes_if o) in
       let sr : Stands rest input (p + 17) =
-      join (t * 32 ∷ []) (body_bytes b ++ bytes_if o) input (p + 17) (p + 18) (omega arith) st
-      (join (body_bytes b) (bytes_if o) input (p + 18) (p + 26) (omega arith) bb.stand bo.stand) in
+      join (t * 32 ∷ []) (rectangle_bytes (word_bytes 2) b ++ bytes_if o) input (p + 17) (p + 18) (omega arith) st
+      (join (rectangle_bytes (word_bytes 2) b) (bytes_if o) input (p + 18) (p + 26) (omega arith) bb.stand bo.stand) in
       subst (λ z. RowBack p z) (sym (same_ok e5)) (record {
         stand =
-            join (flag_byte o ∷ []) (projected_bytes q ++ rest) input p (p + 1) refl sf
-            (join (projected_bytes q) rest input (p + 1) (p + 17) (omega arith) bq.stand sr);
+            join (flag_byte o ∷ []) (rectangle_bytes (word_bytes 4) q ++ rest) input p (p + 1) refl sf
+            (join (rectangle_bytes (word_bytes 4) q) rest input (p + 1) (p + 17) (omega arith) bq.stand sr);
         fits = (bq.fits, bb.fits, bo.fits);
         faultless = record {
           turn = le-ltb 7 t low;

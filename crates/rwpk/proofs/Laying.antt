@@ -1,18 +1,20 @@
 -- Rows that are read and laid, one after the other.
-use Rattle.std.proofs.Common.{◌≡◌, ℕ, suc, ◌+◌, ◌-◌, ◌<◌, ◌≤◌, Bool, true, false, cond, not, ◌||◌, eqb, ltb, leb, List, [], ◌∷◌, ◌++◌, length, Some, None, Ok, Err, Option, Result, sym, refl, ap, ◌∙◌, arith}
-use Rattle.std.proofs.lemmas.Bool.{cond-false, lt-leb, lt-ltb, le-ltb, or_from}
+use Rattle.std.proofs.Common.{◌≡◌, ℕ, suc, ◌+◌, ◌-◌, ◌<◌, ◌≤◌, Bool, true, false, cond, not, ◌||◌, eqb, leb, List, [], ◌∷◌, ◌++◌, length, Some, None, Ok, Err, Option, Result, sym, refl, ap, ◌∙◌, arith}
+use Rattle.std.specs.Result.{MatchResult, IsErrAnd}
+use Rattle.std.proofs.lemmas.Result.{err_from_is_err_and}
+use Rattle.std.proofs.lemmas.Bool.{cond-false, lt-leb, or_from}
 use Rattle.refusal.specs.declared.Refusal.{Refusal}
-use Rattle.refusal.specs.declared.Refusal.TheVariants.{EmptySide, GuardBands as BandFault, TurnCode, LeavesProjected, ClaimLeaves, ClaimMeets, BytesLeft, SheetFull}
+use Rattle.refusal.specs.declared.Refusal.TheVariants.{EmptySide, GuardBands as BandFault, TurnCode, LeavesProjected, ClaimLeaves, ClaimMeets, SheetFull}
 use Rattle.sheet.specs.declared.row.GuardBands.{GuardBands}
 use Rattle.sheet.specs.declared.row.Row.{Row}
 use Rattle.sheet.specs.declared.row.SheetSides.{SheetSides}
 use Rattle.sheet.specs.Claims.{claim, claim_inside, meets_any}
-use Rattle.sheet.specs.Rules.{Content, check, verdict, after, with_rows, bad_turn, empty_row, bad_bands, leaves_projected, empty_picture, open_next, lay_answer, lay_next}
+use Rattle.sheet.specs.Rules.{Content, check, verdict, after, bad_turn, empty_row, bad_bands, leaves_projected, empty_picture, open_next, lay_answer}
 use Rattle.rwpk.specs.declared.fault.Fault.{Fault}
 use Rattle.rwpk.specs.Boxes.{count_of, sides_of, judged, length_with, row_length, rows_from, box_of_bytes}
 use Rattle.rwpk.specs.Fields.{refused_at, refuse, ◌>>=◌, ◌>>◌}
 use Rattle.rwpk.specs.Header.{header}
-use Rattle.rwpk.specs.Loading.{Faultless, appended}
+use Rattle.rwpk.specs.Loading.{Faultless}
 use Rattle.rwpk.specs.Rows.{side_at, row_at}
 use Rattle.rwpk.proofs.Back.{side_back}
 use Rattle.rwpk.proofs.Chains.{granted, same_ok, read, on}
@@ -21,6 +23,15 @@ use Rattle.rwpk.proofs.Chains.{granted, same_ok, read, on}
 abbrev pub placed : Result (Unit {0}) Refusal → ℕ → Result (Unit {0}) Fault
 placed (Ok u) p = Ok u
 placed (Err why) p = refused_at why p
+
+-- where a refusal is handed on with the place
+pub handed_on : {Post : Refusal → Fault → Type 0} (v : Result (Unit {0}) Refusal) (r : Result (Unit {0}) Fault) (p : ℕ) →
+    MatchResult v (λ x. r ≡ Ok x) (λ why. IsErrAnd r (Post why)) →
+    ((why : Refusal) (fault : Fault) → Post why fault → fault ≡ record { refusal = why; place = p }) → r ≡ placed v p
+handed_on (Ok u) r p h is = h
+handed_on (Err why) r p h is =
+    let (fault, was, post) = err_from_is_err_and r h in
+    was ∙ ap Err (is why fault post)
 
 -- the last three checks of lay are those of a row that was read
 same_three : (a b d : Bool) (p : ℕ) →
@@ -48,11 +59,6 @@ lay_judged c r p few f =
     ∙ cond-false (empty_row r) (Err EmptySide) e1 f.sides
     ∙ cond-false (bad_bands r.bands) (Err BandFault) e f.bands)
     ∙ same_three a b d p
-
--- what lay leaves, by what it answers
-pub lay_leaves : (c : Content) (r : Row) (v : Result (Unit {0}) Refusal) (p : ℕ) → v ≡ lay_answer c r → lay_next c r ≡ appended (placed v p) c r
-lay_leaves c r (Ok u) p e = ap (λ a. after a (λ _. with_rows c (c.rows ++ r ∷ [])) c) (sym e)
-lay_leaves c r (Err why) p e = ap (λ a. after a (λ _. with_rows c (c.rows ++ r ∷ [])) c) (sym e)
 
 -- sides that were read are none of them 0
 pub sides_some : (input : List ℕ) (s : SheetSides) → Ok s ≡ sides_of input → empty_picture s ≡ false
@@ -106,25 +112,6 @@ module _ (s : SheetSides) (n i : ℕ) (sofar : List Row) (input : List ℕ) (p :
       ap (λ a. a >> rows_from s (n - (i + 1)) (sofar ++ row ∷ []) input (p + row_length row)) good
       ∙ ap (λ a. a >>= next) is
       ∙ sym step
-
--- before the first row
-pub none_yet : (s : SheetSides) (n : ℕ) (rows : List Row) (input : List ℕ) (p : ℕ) → rows ≡ [] →
-    rows_from s (n - 0) rows input p ≡ rows_from s n [] input p
-none_yet s n rows input p e =
-    let all : n - 0 ≡ n = omega arith in
-    ap (λ m. rows_from s m rows input p) all ∙ ap (λ rs. rows_from s n rs input p) e
-
-module _ (s : SheetSides) (n i : ℕ) (sofar : List Row) (input : List ℕ) (p : ℕ) (h : n ≤ i) where
-  no_more : rows_from s (n - i) sofar input p ≡ (refuse (ltb p (length input)) BytesLeft p >> Ok sofar)
-  no_more = let none : n - i ≡ 0 = omega arith in ap (λ m. rows_from s m sofar input p) none
-
-  -- after the last row, with bytes left over
-  pub left_over : p < length input → refused_at BytesLeft p ≡ rows_from s (n - i) sofar input p
-  left_over lt = sym (no_more ∙ ap (λ t. refuse t BytesLeft p >> Ok sofar) (lt-ltb p (length input) lt))
-
-  -- and with none
-  pub ended : length input ≤ p → Ok sofar ≡ rows_from s (n - i) sofar input p
-  ended le = sym (no_more ∙ ap (λ t. refuse t BytesLeft p >> Ok sofar) (le-ltb p (length input) le))
 
 -- what the rows decide, once all before them is read
 pub by_rows : (input : List ℕ) (u : Unit {0}) (n : ℕ) (s : SheetSides) → Ok u ≡ header input → Ok n ≡ count_of input → Ok s ≡ sides_of input →

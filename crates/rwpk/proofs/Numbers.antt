@@ -63,3 +63,7 @@ word_there (suc n) x =
     ∙ ap (λ z. (x / 256 ^ n % 256) * 256 ^ n + z) (word_there n x)
     ∙ sym (mod-mul x {m = 256} {c = 256 ^ n} (omega arith) (big n))
     ∙ ap (λ z. x % z) (sym (pow-succ' 256 n))
+
+-- a number that fits one byte is that byte
+pub word_one : (x : ℕ) → x < 256 → word_bytes 1 x ≡ x ∷ []
+word_one x h = let is : x / 1 % 256 ≡ x = omega arith in ap (λ b. b ∷ []) is

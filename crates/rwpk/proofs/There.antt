@@ -2,17 +2,16 @@
 use Rattle.std.proofs.Common.{◌≡◌, ℕ, ◌+◌, ◌*◌, ◌/◌, ◌%◌, ◌<◌, ◌≤◌, Bool, true, false, cond, ◌||◌, eqb, ltb, List, [], ◌∷◌, ◌++◌, length, take, drop, is_some, Some, None, Ok, Option, sym, refl, ap, ◌∙◌, subst, mod-eq_of_lt, arith}
 use Rattle.std.proofs.lemmas.Bool.{ne_eqb, eq-eqb, le-ltb, ltb-false, or_parts}
 use Rattle.refusal.specs.declared.Refusal.TheVariants.{EmptySide, ReservedBit, GuardBands as BandFault}
-use Rattle.geometry.specs.declared.place.Body.{Body}
-use Rattle.geometry.specs.declared.place.ProjectedRectangle.{ProjectedRectangle}
+use Rattle.geometry.specs.declared.place.Rectangle.{Rectangle}
 use Rattle.sheet.specs.declared.row.FourSides.{FourSides}
 use Rattle.sheet.specs.declared.row.GuardBands.{GuardBands}
 use Rattle.sheet.specs.declared.row.Row.{Row}
 use Rattle.sheet.specs.Rules.{all_zero, over_four, bad_bands}
-use Rattle.rwpk.specs.Bytes.{word_bytes, projected_bytes, body_bytes, bands_bytes, bytes_if, flag_byte, row_bytes, kinds_word}
+use Rattle.rwpk.specs.Bytes.{word_bytes, rectangle_bytes, bands_bytes, bytes_if, flag_byte, row_bytes, kinds_word}
 use Rattle.rwpk.specs.Fields.{word_of, field}
-use Rattle.rwpk.specs.Laws.{Fits, ProjectedFits, BodyFits, SizesFit, RowFits}
+use Rattle.rwpk.specs.Laws.{Fits, RectangleFits, SizesFit, RowFits}
 use Rattle.rwpk.specs.Loading.{Faultless}
-use Rattle.rwpk.specs.Rows.{side_at, flag_at, projected_at, turn_at, body_at, four_sides, sizes_at, flag_of, kinds_of, kinds_at, bands_at, bands_if, row_at}
+use Rattle.rwpk.specs.Rows.{side_at, flag_at, rectangle_at, turn_at, four_sides, sizes_at, flag_of, kinds_of, kinds_at, bands_at, bands_if, row_at}
 use Rattle.rwpk.proofs.Chains.{read, pass}
 use Rattle.rwpk.proofs.Numbers.{word_long, word_there}
 use Rattle.rwpk.proofs.Reading.{field_ok}
@@ -118,23 +117,14 @@ module _ (input : List ℕ) where
         four = field_there n p3 d h ld sd;
       }
 
-  projected_there : (p : ℕ) (r : ProjectedRectangle) → ProjectedFits r → eqb r.width 0 ≡ false → eqb r.height 0 ≡ false →
-      Stands (projected_bytes r) input p → projected_at input p ≡ Ok r
-  projected_there p r fit zw zh s =
-      let f = four_there 4 p (p + 4) (p + 8) (p + 12) r.width r.height r.top r.left (omega arith) refl (omega arith) (omega arith)
+  rectangle_there : (n p : ℕ) (r : Rectangle ℕ) → 0 < n → RectangleFits n r → eqb r.width 0 ≡ false → eqb r.height 0 ≡ false →
+      Stands (rectangle_bytes (word_bytes n) r) input p → rectangle_at n input p ≡ Ok r
+  rectangle_there n p r h fit zw zh s =
+      let f = four_there n p (p + n) (p + 2 * n) (p + 3 * n) r.width r.height r.top r.left h refl (omega arith) (omega arith)
       fit zw zh s in
-      read (side_at 4 input p) _ r.width _ f.one
-      (read (side_at 4 input (p + 4)) _ r.height _ f.two
-      (read (field 4 input (p + 8)) _ r.top _ f.three (read (field 4 input (p + 12)) _ r.left _ f.four refl)))
-
-  body_there : (p : ℕ) (b : Body) → BodyFits b → eqb b.width 0 ≡ false → eqb b.height 0 ≡ false →
-      Stands (body_bytes b) input p → body_at input p ≡ Ok b
-  body_there p b fit zw zh s =
-      let f = four_there 2 p (p + 2) (p + 4) (p + 6) b.width b.height b.top b.left (omega arith) refl (omega arith) (omega arith)
-      fit zw zh s in
-      read (side_at 2 input p) _ b.width _ f.one
-      (read (side_at 2 input (p + 2)) _ b.height _ f.two
-      (read (field 2 input (p + 4)) _ b.top _ f.three (read (field 2 input (p + 6)) _ b.left _ f.four refl)))
+      read (side_at n input p) _ r.width _ f.one
+      (read (side_at n input (p + n)) _ r.height _ f.two
+      (read (field n input (p + 2 * n)) _ r.top _ f.three (read (field n input (p + 3 * n)) _ r.left _ f.four refl)))
 
   flag_there : (o : Option GuardBands) (p : ℕ) → Stands (flag_byte o ∷ []) input p → flag_at input p ≡ Ok (is_some o)
   flag_there None p s = read (field 1 input p) _ 0 _ (byte_there p 0 (omega arith) s) refl
@@ -186,8 +176,8 @@ module _ (input : List ℕ) where
 
   pub row_there : (p : ℕ) (r : Row) → RowFits r → Faultless r → Stands (row_bytes r) input p → row_at input p ≡ Ok r
   row_there p r (fp, fb, fg) free s =
-      let P : List ℕ = projected_bytes r.projected in
-      let B : List ℕ = body_bytes r.body in
+      let P : List ℕ = rectangle_bytes (word_bytes 4) r.projected in
+      let B : List ℕ = rectangle_bytes (word_bytes 2) r.body in
       let G : List ℕ = bytes_if r.bands in
       let (sf, s1) = split (flag_byte r.bands ∷ []) (P ++ ((r.turn * 32 ∷ []) ++ (B ++ G))) input p (p + 1) refl s in
       let (sp, s2) = split P ((r.turn * 32 ∷ []) ++ (B ++ G)) input (p + 1) (p + 17) (omega arith) s1 in
@@ -200,7 +190,7 @@ module _ (input : List ℕ) where
       let (two, zw) = or_parts (q || h) w three in
       let (zq, zs) = or_parts q h two in
       read (flag_at input p) _ (is_some r.bands) _ (flag_there r.bands p sf)
-      (read (projected_at input (p + 1)) _ r.projected _ (projected_there (p + 1) r.projected fp zq zs sp)
+      (read (rectangle_at 4 input (p + 1)) _ r.projected _ (rectangle_there 4 (p + 1) r.projected (omega arith) fp zq zs sp)
       (read (turn_at input (p + 17)) _ r.turn _ (turn_there (p + 17) r.turn (ltb-false 7 r.turn free.turn) st)
-      (read (body_at input (p + 18)) _ r.body _ (body_there (p + 18) r.body fb zw zh sb)
+      (read (rectangle_at 2 input (p + 18)) _ r.body _ (rectangle_there 2 (p + 18) r.body (omega arith) fb zw zh sb)
       (read (bands_if (is_some r.bands) input (p + 26)) _ r.bands _ (if_there r.bands (p + 26) fg free.bands sg) refl))))

@@ -1,8 +1,7 @@
 -- The bytes of a box, field by field.
 use Rattle.std.specs.Prelude.{ℕ, zero, suc, ◌+◌, ◌*◌, ◌/◌, ◌%◌, ◌^◌, cond, List, [], ◌∷◌, ◌++◌, length, Some, None, codes, Option}
 use Rattle.std.specs.List.{flat_map}
-use Rattle.geometry.specs.declared.place.Body.{Body}
-use Rattle.geometry.specs.declared.place.ProjectedRectangle.{ProjectedRectangle}
+use Rattle.geometry.specs.declared.place.Rectangle.{Rectangle}
 use Rattle.sheet.specs.declared.row.GuardBands.{GuardBands}
 use Rattle.sheet.specs.declared.row.Row.{Row}
 use Rattle.sheet.specs.declared.row.SheetSides.{SheetSides}
@@ -13,11 +12,9 @@ abbrev pub word_bytes : ℕ → ℕ → List ℕ
 word_bytes zero x = []
 word_bytes (suc n) x = (x / 256 ^ n % 256) ∷ word_bytes n x
 
-abbrev pub projected_bytes : ProjectedRectangle → List ℕ
-projected_bytes r = word_bytes 4 r.width ++ (word_bytes 4 r.height ++ (word_bytes 4 r.top ++ word_bytes 4 r.left))
-
-abbrev pub body_bytes : Body → List ℕ
-body_bytes b = word_bytes 2 b.width ++ (word_bytes 2 b.height ++ (word_bytes 2 b.top ++ word_bytes 2 b.left))
+-- width, height, top and left, where `bytes` gives those of one number
+abbrev pub rectangle_bytes : {X : Type 0} → (X → List ℕ) → Rectangle X → List ℕ
+rectangle_bytes bytes r = bytes r.width ++ (bytes r.height ++ (bytes r.top ++ bytes r.left))
 
 -- the prediction flag in the top bit, four kinds of three bits, and three reserved bits
 abbrev pub kinds_word : GuardBands → ℕ
@@ -39,7 +36,8 @@ flag_byte (Some g) = 16
 
 -- the 26 bytes that every row has
 abbrev pub plain_bytes : Row → List ℕ
-plain_bytes r = flag_byte r.bands ∷ (projected_bytes r.projected ++ (r.turn * 32 ∷ body_bytes r.body))
+plain_bytes r =
+    flag_byte r.bands ∷ (rectangle_bytes (word_bytes 4) r.projected ++ (r.turn * 32 ∷ rectangle_bytes (word_bytes 2) r.body))
 
 abbrev pub row_bytes : Row → List ℕ
 row_bytes r = plain_bytes r ++ bytes_if r.bands

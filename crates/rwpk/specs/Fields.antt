@@ -1,5 +1,5 @@
 -- Fields of some bytes, highest byte first, and how reading goes on from one to the next.
-use Rattle.std.specs.Prelude.{ℕ, ◌+◌, ◌*◌, ◌^◌, Bool, cond, List, [], ◌∷◌, length, take, drop, Ok, Err, Result, nat_lt}
+use Rattle.std.specs.Prelude.{ℕ, ◌+◌, ◌*◌, ◌^◌, Bool, cond, List, [], ◌∷◌, length, take, drop, Some, None, Ok, Err, Option, Result, nat_lt}
 use Rattle.refusal.specs.declared.Refusal.{Refusal}
 use Rattle.refusal.specs.declared.Refusal.TheVariants.{InputEnds}
 use Rattle.rwpk.specs.declared.fault.Fault.{Fault}
@@ -28,6 +28,15 @@ Err e >> next = Err e
 abbrev pub refuse : Bool → Refusal → ℕ → Result (Unit {0}) Fault
 refuse bad why place = cond bad (refused_at why place) (Ok tt)
 
--- the number in the n bytes at a place, or the refusal that the input ends inside them
+-- the number in the first n bytes, as the type that holds it, if there are so many
+abbrev pub first_as : {X : Type 0} → (ℕ → X) → ℕ → List ℕ → Option X
+first_as of n bytes = cond (nat_lt (length bytes) n) None (Some (of (word_of (take n bytes))))
+
+-- the same of the n bytes at a place, or the refusal that the input ends inside them
+abbrev pub field_as : {X : Type 0} → (ℕ → X) → ℕ → List ℕ → ℕ → Result X Fault
+field_as of n input place =
+    cond (nat_lt (length input) (place + n)) (refused_at InputEnds place) (Ok (of (word_of (take n (drop place input)))))
+
+-- the number in the n bytes at a place
 abbrev pub field : ℕ → List ℕ → ℕ → Result ℕ Fault
-field n input place = cond (nat_lt (length input) (place + n)) (refused_at InputEnds place) (Ok (word_of (take n (drop place input))))
+field n input place = field_as (λ x. x) n input place

@@ -1,8 +1,7 @@
 -- What holds between inputs and contents.
 use Rattle.std.specs.Prelude.{◌≡◌, ℕ, suc, ◌^◌, ◌<◌, true, List, ◌++◌, length, drop, Some, None, Ok, Option, slice_index}
 use Rattle.std.specs.List.{AllByRecursion}
-use Rattle.geometry.specs.declared.place.Body.{Body}
-use Rattle.geometry.specs.declared.place.ProjectedRectangle.{ProjectedRectangle}
+use Rattle.geometry.specs.declared.place.Rectangle.{Rectangle}
 use Rattle.sheet.specs.declared.row.GuardBands.{GuardBands}
 use Rattle.sheet.specs.declared.row.Row.{Row}
 use Rattle.sheet.specs.declared.row.SheetSides.{SheetSides}
@@ -21,22 +20,22 @@ Bytes input = (i : ℕ) → slice_index input i < 256
 abbrev pub Fits : ℕ → ℕ → Type 0
 Fits n x = x < 256 ^ n
 
+-- the sides of both pictures fit their fields
 abbrev pub SidesFit : SheetSides → Type 0
 SidesFit s = Fits 4 s.projected.width × Fits 4 s.projected.height × Fits 2 s.packed.width × Fits 2 s.packed.height
 
-abbrev pub ProjectedFits : ProjectedRectangle → Type 0
-ProjectedFits r = Fits 4 r.width × Fits 4 r.height × Fits 4 r.top × Fits 4 r.left
+-- a rectangle's four numbers fit n bytes each
+abbrev pub RectangleFits : ℕ → Rectangle ℕ → Type 0
+RectangleFits n r = Fits n r.width × Fits n r.height × Fits n r.top × Fits n r.left
 
-abbrev pub BodyFits : Body → Type 0
-BodyFits b = Fits 2 b.width × Fits 2 b.height × Fits 2 b.top × Fits 2 b.left
-
+-- the four sizes of the bands, where there are any, fit one byte each
 abbrev pub SizesFit : Option GuardBands → Type 0
 SizesFit None = Unit {0}
 SizesFit (Some g) = Fits 1 g.sizes.left × Fits 1 g.sizes.right × Fits 1 g.sizes.top × Fits 1 g.sizes.bottom
 
 -- a row's numbers fit their fields; the turn code and the kinds of a sound row do in any case
 abbrev pub RowFits : Row → Type 0
-RowFits r = ProjectedFits r.projected × BodyFits r.body × SizesFit r.bands
+RowFits r = RectangleFits 4 r.projected × RectangleFits 2 r.body × SizesFit r.bands
 
 -- a content that has a box: sound, with at least one row, and with numbers that fit their fields
 pub record HasBox (c : Content) : Type 0 where

@@ -7,4 +7,5 @@ pub mod Laws
 pub mod Loading
 pub mod Parts
 pub mod Rows
+pub mod Sentences
 pub mod Writing

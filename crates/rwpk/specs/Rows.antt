@@ -1,8 +1,8 @@
 -- A row of a box, in the order in which its fields are judged.
-use Rattle.std.specs.Prelude.{ℕ, ◌+◌, ◌/◌, ◌%◌, Bool, true, false, List, Some, None, Ok, Option, Result, ◌==◌, nat_lt}
+use Rattle.std.specs.Prelude.{ℕ, ◌+◌, ◌*◌, ◌/◌, ◌%◌, Bool, true, false, List, Some, None, Ok, Option, Result, ◌==◌, nat_lt}
 use Rattle.refusal.specs.declared.Refusal.TheVariants.{EmptySide, ReservedBit, PackingType, GuardBands as BandFault}
-use Rattle.geometry.specs.declared.place.Body.{Body}
-use Rattle.geometry.specs.declared.place.ProjectedRectangle.{ProjectedRectangle}
+use Rattle.geometry.specs.declared.place.Rectangle.{Rectangle}
+use Rattle.geometry.specs.declared.place.Sides.{Sides}
 use Rattle.sheet.specs.declared.row.FourSides.{FourSides}
 use Rattle.sheet.specs.declared.row.GuardBands.{GuardBands}
 use Rattle.sheet.specs.declared.row.Row.{Row}
@@ -10,12 +10,36 @@ use Rattle.sheet.specs.Rules.{all_zero, over_four}
 use Rattle.rwpk.specs.declared.fault.Fault.{Fault}
 use Rattle.rwpk.specs.Fields.{field, refuse, ◌>>=◌, ◌>>◌}
 
+-- a width or a height, which may not be 0, where `read` reads a number at a place
+abbrev pub side_by : {X : Type 0} → (X → ℕ) → (ℕ → Result X Fault) → ℕ → Result X Fault
+side_by number read p = do
+  side ← read p
+  refuse (number side == 0) EmptySide p
+  Ok side
+
 -- a width or a height in n bytes
 abbrev pub side_at : ℕ → List ℕ → ℕ → Result ℕ Fault
-side_at n input p = do
-  side ← field n input p
-  refuse (side == 0) EmptySide p
-  Ok side
+side_at n input p = side_by (λ x. x) (field n input) p
+
+-- a width and a height, where `side` reads a side of n bytes
+abbrev pub sides_by : {X : Type 0} → ℕ → (ℕ → Result X Fault) → ℕ → Result (Sides X) Fault
+sides_by n side p = do
+  width ← side p
+  height ← side (p + n)
+  Ok (record { width = width; height = height })
+
+-- a rectangle, where `side` reads a side of n bytes and `read` any number of n bytes
+abbrev pub rectangle_by : {X : Type 0} → ℕ → (ℕ → Result X Fault) → (ℕ → Result X Fault) → ℕ → Result (Rectangle X) Fault
+rectangle_by n side read p = do
+  width ← side p
+  height ← side (p + n)
+  top ← read (p + 2 * n)
+  left ← read (p + 3 * n)
+  Ok (record { width = width; height = height; top = top; left = left })
+
+-- a rectangle whose four numbers have n bytes each
+abbrev pub rectangle_at : ℕ → List ℕ → ℕ → Result (Rectangle ℕ) Fault
+rectangle_at n input p = rectangle_by n (side_at n input) (field n input) p
 
 -- three reserved bits, the band flag, and four bits of packing type: whether the row has bands
 abbrev pub flag_at : List ℕ → ℕ → Result Bool Fault
@@ -25,28 +49,12 @@ flag_at input p = do
   refuse (nat_lt 0 (byte % 16)) PackingType p
   Ok (byte / 16 == 1)
 
-abbrev pub projected_at : List ℕ → ℕ → Result ProjectedRectangle Fault
-projected_at input p = do
-  width ← side_at 4 input p
-  height ← side_at 4 input (p + 4)
-  top ← field 4 input (p + 8)
-  left ← field 4 input (p + 12)
-  Ok (record { width = width; height = height; top = top; left = left })
-
 -- three bits of turn code, and five reserved bits
 abbrev pub turn_at : List ℕ → ℕ → Result ℕ Fault
 turn_at input p = do
   byte ← field 1 input p
   refuse (nat_lt 0 (byte % 32)) ReservedBit p
   Ok (byte / 32)
-
-abbrev pub body_at : List ℕ → ℕ → Result Body Fault
-body_at input p = do
-  width ← side_at 2 input p
-  height ← side_at 2 input (p + 2)
-  top ← field 2 input (p + 4)
-  left ← field 2 input (p + 6)
-  Ok (record { width = width; height = height; top = top; left = left })
 
 -- one number for each side
 abbrev pub four_sides : ℕ → ℕ → ℕ → ℕ → FourSides
@@ -93,8 +101,8 @@ bands_if true input p = do
 abbrev pub row_at : List ℕ → ℕ → Result Row Fault
 row_at input p = do
   banded ← flag_at input p
-  projected ← projected_at input (p + 1)
+  projected ← rectangle_at 4 input (p + 1)
   turn ← turn_at input (p + 17)
-  body ← body_at input (p + 18)
+  body ← rectangle_at 2 input (p + 18)
   bands ← bands_if banded input (p + 26)
   Ok (record { projected = projected; turn = turn; body = body; bands = bands })

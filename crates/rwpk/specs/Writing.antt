@@ -13,6 +13,10 @@ use Rattle.rwpk.specs.Parts.{part_at}
 abbrev pub put_at : List ℕ → ℕ → List ℕ → List ℕ
 put_at out p bytes = take p out ++ (bytes ++ drop (p + length bytes) out)
 
+-- refused where a buffer is shorter than what has to go into it
+abbrev pub refuse_short : ℕ → ℕ → Result (Unit {0}) Refusal
+refuse_short has needs = cond (nat_lt has needs) (Err BufferShort) (Ok tt)
+
 -- bytes at a place: their length, or refused where the buffer has no room
 abbrev pub put_answer : List ℕ → ℕ → List ℕ → Result ℕ Refusal
 put_answer out p bytes = cond (nat_lt (length out) (p + length bytes)) (Err BufferShort) (Ok (length bytes))

@@ -1,32 +1,25 @@
 // The guard bands of a row: four sizes, and two bytes of prediction flag and kinds.
-ghost use Rattle.std.specs.Prelude.{◌≡◌, ◌+◌, ◌^◌, ◌<◌};
+ghost use Rattle.std.specs.Prelude.{◌≡◌};
 ghost use Rattle.rwpk.specs.Rows.{sizes_at, kinds_of, kinds_at, bands_at};
 
 use crate::fault::Fault;
-use crate::words::{byte_at, u16_at};
+use crate::words::word_at;
 use refusal::Refusal;
 use sheet::{FourSides, GuardBands};
 
-// The last kind of bands that there is.
-const LAST_KIND: u8 = 4;
-
 fn sizes_at(input: &[u8], place: usize) -> Result<FourSides, Fault>
-    requires { place < 2 ^ 32 }
     ensures { result ≡ sizes_at input.now place }
 {
-    let left = byte_at(input, place)?;
-    let right = byte_at(input, place + 1)?;
-    let top = byte_at(input, place + 2)?;
-    let bottom = byte_at(input, place + 3)?;
-    if left == 0 && right == 0 && top == 0 && bottom == 0 {
+    let sizes = FourSides {
+        left: word_at(input, place)?,
+        right: word_at(input, place + 1)?,
+        top: word_at(input, place + 2)?,
+        bottom: word_at(input, place + 3)?,
+    };
+    if sizes.are_zero() {
         return Err(Fault::at(Refusal::GuardBands, place));
     }
-    Ok(FourSides {
-        left,
-        right,
-        top,
-        bottom,
-    })
+    Ok(sizes)
 }
 
 // The kinds of the four sides, of three bits each.
@@ -45,23 +38,17 @@ fn kinds_of(word: u16) -> FourSides
 fn kinds_at(input: &[u8], place: usize) -> Result<u16, Fault>
     ensures { result ≡ kinds_at input.now place }
 {
-    let word = u16_at(input, place)?;
+    let word: u16 = word_at(input, place)?;
     if word % 8 > 0 {
         return Err(Fault::at(Refusal::ReservedBit, place));
     }
-    let kinds = kinds_of(word);
-    if kinds.left > LAST_KIND
-        || kinds.right > LAST_KIND
-        || kinds.top > LAST_KIND
-        || kinds.bottom > LAST_KIND
-    {
+    if kinds_of(word).has_over_four() {
         return Err(Fault::at(Refusal::GuardBands, place));
     }
     Ok(word)
 }
 
 pub(crate) fn bands_at(input: &[u8], place: usize) -> Result<GuardBands, Fault>
-    requires { place < 2 ^ 32 }
     ensures { result ≡ bands_at input.now place }
 {
     let sizes = sizes_at(input, place)?;

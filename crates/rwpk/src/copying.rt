@@ -4,10 +4,10 @@ ghost use Rattle.sheet.specs.Contents.{content};
 ghost use Rattle.rwpk.specs.Bytes.{box_of};
 ghost use Rattle.rwpk.specs.Writing.{put_at, copy_answer, copy_out};
 
-use crate::bytes::be32;
 use crate::fault::CopyFault;
 use crate::loading::read_box;
-use crate::writing::{put, write_part};
+use crate::words::Word;
+use crate::writing::write_part;
 use refusal::Refusal;
 use sheet::Sheet;
 
@@ -22,7 +22,7 @@ fn write_box(sheet: &Sheet, out: &mut [u8]) -> Result<usize, Refusal>
         place += write_part(sheet, part, out, place)?;
     }
     // The size is known once all parts are written.
-    put(out, 0, &be32(place as u32));
+    (place as u32).put(out, 0);
     Ok(place)
 }
 
@@ -31,15 +31,9 @@ pub fn copy_box(input: &[u8], out: &mut [u8]) -> Result<usize, CopyFault>
     ensures answer { result ≡ copy_answer input.now out.old }
     ensures out { out.new ≡ copy_out result out.old input.now }
 {
-    let sheet = match read_box(input) {
-        Ok(sheet) => sheet,
-        Err(fault) => return Err(CopyFault::Unread(fault)),
-    };
+    let sheet = read_box(input)?;
     if out.len() < input.len() {
         return Err(CopyFault::Unwritten(Refusal::BufferShort));
     }
-    match write_box(&sheet, out) {
-        Ok(size) => Ok(size),
-        Err(refusal) => Err(CopyFault::Unwritten(refusal)),
-    }
+    Ok(write_box(&sheet, out)?)
 }

@@ -8,7 +8,8 @@ use refusal::Refusal;
 // The letters rwpk as one number.
 const RWPK: u32 = 0x7277706b;
 
-// Reads and judges the header. Granted, the box has a payload after it.
+// Reads and judges the header, slice by slice, each taken apart into its first bytes and the rest: the customer asked for this
+// form. Granted, the box has a payload after it.
 pub(crate) fn judge_header(input: &[u8]) -> Result<(), Fault>
     ensures { result ≡ header input.now }
 {

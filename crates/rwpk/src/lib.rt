@@ -5,6 +5,7 @@ mod bands;
 mod bytes;
 mod copying;
 mod fault;
+mod fields;
 mod header;
 mod laws;
 mod loading;

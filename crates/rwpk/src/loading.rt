@@ -1,14 +1,16 @@
 // Loading a box onto a sheet.
-ghost use Rattle.std.specs.Prelude.{◌≡◌, ◌<◌, [], length, OnErr};
+ghost use Rattle.std.specs.Prelude.{◌≡◌, ◌<◌, [], length, nat_lt, OnErr};
+ghost use Rattle.refusal.specs.declared.Refusal.TheVariants.{BytesLeft};
 ghost use Rattle.sheet.specs.Contents.{content};
 ghost use Rattle.rwpk.specs.Boxes.{count_of, judged, rows_from, box_of_bytes};
+ghost use Rattle.rwpk.specs.Fields.{refuse};
 ghost use Rattle.rwpk.specs.Loading.{Faultless, appended, rows_laid, content_read, load_answer, load_next};
 
 use crate::fault::Fault;
 use crate::header::judge_header;
 use crate::row::{row_at, row_length};
 use crate::sides::picture_sides;
-use crate::words::byte_at;
+use crate::words::word_at;
 use refusal::Refusal;
 use sheet::{Row, Sheet};
 
@@ -19,14 +21,14 @@ const FIRST_ROW: usize = 26;
 fn row_count(input: &[u8]) -> Result<u8, Fault>
     ensures { result ≡ count_of input.now }
 {
-    let flags = byte_at(input, 12)?;
+    let flags: u8 = word_at(input, 12)?;
     if flags / 128 > 0 {
         return Err(Fault::at(Refusal::Paired, 12));
     }
     if flags > 0 {
         return Err(Fault::at(Refusal::ReservedBit, 12));
     }
-    let count = byte_at(input, 13)?;
+    let count: u8 = word_at(input, 13)?;
     if count == 0 {
         return Err(Fault::at(Refusal::NoRows, 13));
     }
@@ -40,10 +42,17 @@ fn lay_at(sheet: &mut Sheet, row: Row, place: usize) -> Result<(), Fault>
     ensures answer { result ≡ judged (content sheet.old).sides (content sheet.old).rows row place }
     ensures after { content sheet.new ≡ appended result (content sheet.old) row }
 {
-    match sheet.lay(row) {
-        Ok(()) => Ok(()),
-        Err(refusal) => Err(Fault::at(refusal, place)),
+    sheet.lay(row).map_err(|refusal| Fault::at(refusal, place))
+}
+
+// Nothing may stand in the input from `place` on.
+fn judge_end(input: &[u8], place: usize) -> Result<(), Fault>
+    ensures { result ≡ refuse (nat_lt place (length input.now)) BytesLeft place }
+{
+    if place < input.len() {
+        return Err(Fault::at(Refusal::BytesLeft, place));
     }
+    Ok(())
 }
 
 // Reads so many rows, and lays each before it reads the next. Nothing may come after them.
@@ -58,10 +67,7 @@ fn lay_rows(sheet: &mut Sheet, count: u8, input: &[u8]) -> Result<(), Fault>
         lay_at(sheet, row, place)?;
         place += row_length(&row);
     }
-    if place < input.len() {
-        return Err(Fault::at(Refusal::BytesLeft, place));
-    }
-    Ok(())
+    judge_end(input, place)
 }
 
 // The box's content, on a sheet of its own.

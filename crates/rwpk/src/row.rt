@@ -1,13 +1,14 @@
 // Reading one row of a box.
-ghost use Rattle.std.specs.Prelude.{◌≡◌, ◌+◌, ◌^◌, ◌<◌};
+ghost use Rattle.std.specs.Prelude.{◌≡◌};
 ghost use Rattle.rwpk.specs.Boxes.{row_length};
-ghost use Rattle.rwpk.specs.Rows.{flag_at, projected_at, turn_at, body_at, row_at};
+ghost use Rattle.rwpk.specs.Fields.{field_as};
+ghost use Rattle.rwpk.specs.Rows.{flag_at, turn_at, side_by, rectangle_by, row_at};
 
 use crate::bands::bands_at;
 use crate::fault::Fault;
-use crate::sides::{packed_side, projected_side};
-use crate::words::{byte_at, u16_at, u32_at};
-use geometry::{Body, ProjectedRectangle};
+use crate::sides::side_at;
+use crate::words::{Word, word_at};
+use geometry::Rectangle;
 use refusal::Refusal;
 use sheet::Row;
 
@@ -15,7 +16,7 @@ use sheet::Row;
 fn flag_at(input: &[u8], place: usize) -> Result<bool, Fault>
     ensures { result ≡ flag_at input.now place }
 {
-    let byte = byte_at(input, place)?;
+    let byte: u8 = word_at(input, place)?;
     if byte / 32 > 0 {
         return Err(Fault::at(Refusal::ReservedBit, place));
     }
@@ -25,57 +26,36 @@ fn flag_at(input: &[u8], place: usize) -> Result<bool, Fault>
     Ok(byte / 16 == 1)
 }
 
-fn projected_at(input: &[u8], place: usize) -> Result<ProjectedRectangle, Fault>
-    requires { place < 2 ^ 32 }
-    ensures { result ≡ projected_at input.now place }
-{
-    let width = projected_side(input, place)?;
-    let height = projected_side(input, place + 4)?;
-    let top = u32_at(input, place + 8)?;
-    let left = u32_at(input, place + 12)?;
-    Ok(ProjectedRectangle {
-        width,
-        height,
-        top,
-        left,
-    })
-}
-
 fn turn_at(input: &[u8], place: usize) -> Result<u8, Fault>
     ensures { result ≡ turn_at input.now place }
 {
-    let byte = byte_at(input, place)?;
+    let byte: u8 = word_at(input, place)?;
     if byte % 32 > 0 {
         return Err(Fault::at(Refusal::ReservedBit, place));
     }
     Ok(byte / 32)
 }
 
-fn body_at(input: &[u8], place: usize) -> Result<Body, Fault>
-    requires { place < 2 ^ 32 }
-    ensures { result ≡ body_at input.now place }
+// The rectangle whose width, height, top and left stand at `place`, one after the other.
+fn rectangle_at<W: Word>(input: &[u8], place: usize) -> Result<Rectangle<W>, Fault>
+    ensures { result ≡ rectangle_by W.WIDTH (side_by W.number (field_as W.of W.WIDTH input.now)) (field_as W.of W.WIDTH input.now) place }
 {
-    let width = packed_side(input, place)?;
-    let height = packed_side(input, place + 2)?;
-    let top = u16_at(input, place + 4)?;
-    let left = u16_at(input, place + 6)?;
-    Ok(Body {
-        width,
-        height,
-        top,
-        left,
+    Ok(Rectangle {
+        width: side_at(input, place)?,
+        height: side_at(input, place + W::WIDTH)?,
+        top: word_at(input, place + 2 * W::WIDTH)?,
+        left: word_at(input, place + 3 * W::WIDTH)?,
     })
 }
 
 // The row whose first byte stands at `place`.
 pub(crate) fn row_at(input: &[u8], place: usize) -> Result<Row, Fault>
-    requires { place < 2 ^ 31 }
     ensures { result ≡ row_at input.now place }
 {
     let banded = flag_at(input, place)?;
-    let projected = projected_at(input, place + 1)?;
+    let projected = rectangle_at(input, place + 1)?;
     let turn = turn_at(input, place + 17)?;
-    let body = body_at(input, place + 18)?;
+    let body = rectangle_at(input, place + 18)?;
     let bands = if banded {
         Some(bands_at(input, place + 26)?)
     } else {

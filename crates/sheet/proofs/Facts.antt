@@ -1,7 +1,8 @@
 -- What holds of every sound sheet, for readers.
-use Rattle.std.proofs.Common.{◌≡◌, ◌+◌, ◌≤◌, true, not, ltb, length}
+use Rattle.std.proofs.Common.{◌≡◌, ◌≤◌, true, not, length, arith}
 use Rattle.std.proofs.ByRecursion.{All-weaker}
-use Rattle.std.proofs.lemmas.Bool.{and_parts, or_parts, ltb-false}
+use Rattle.std.proofs.lemmas.Bool.{and_parts}
+use Rattle.std.proofs.lemmas.Bool.Decides.{nat_tests}
 use Rattle.sheet.specs.declared.row.Row.{Row}
 use Rattle.sheet.specs.declared.row.SheetSides.{SheetSides}
 use Rattle.sheet.specs.Rules.{Content, empty_picture}
@@ -14,13 +15,11 @@ use Rattle.sheet.proofs.Sided.{sided}
 shaped : (s : SheetSides) (r : Row) → sound_row s r ≡ true → Shaped s r
 shaped s r h =
     let f = faultless s r h in
-    let (across, down) =
-    or_parts (ltb s.projected.width (r.projected.left + r.projected.width)) (ltb s.projected.height (r.projected.top + r.projected.height)) f.projected in
     record {
-      turn = ltb-false 7 r.turn f.turn;
+      turn = grind (arith, nat_tests, f.turn);
       sided = sided r f.sides;
-      across = ltb-false s.projected.width (r.projected.left + r.projected.width) across;
-      down = ltb-false s.projected.height (r.projected.top + r.projected.height) down;
+      across = grind (arith, nat_tests, f.projected);
+      down = grind (arith, nat_tests, f.projected);
     }
 
 pub facts : (c : Content) → length c.rows ≤ 255 → sound c ≡ true → Facts c

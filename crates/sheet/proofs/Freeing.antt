@@ -1,8 +1,8 @@
 -- A spot is in no blocked box exactly where it is free.
 use Rattle.std.proofs.Common.{◌≡◌, ℕ, ◌<◌, Bool, true, false, cond, not, ◌&&◌, ◌||◌, List, [], ◌∷◌, ◌++◌, map, Some, None, Ok, Err, Option, Result, sym, refl, ap, ◌∙◌, subst, ap₂, arith}
-use Rattle.std.specs.List.{flat_map, AllByRecursion}
+use Rattle.std.specs.List.{flat_map, AllByRecursion, list_all, list_any}
 use Rattle.std.proofs.ByRecursion.{All-weaker}
-use Rattle.std.proofs.lemmas.Bool.{and_parts, false≢true}
+use Rattle.std.proofs.lemmas.Bool.{and_parts}
 use Rattle.std.proofs.lemmas.Bool.Decides.{nat_tests}
 use Rattle.geometry.specs.declared.bounds.Bounds.{Bounds}
 use Rattle.geometry.specs.Boxes.{has, covers}
@@ -14,11 +14,11 @@ use Rattle.geometry.proofs.Searching.{same_first, is_first}
 use Rattle.sheet.specs.declared.row.Draft.{Draft}
 use Rattle.sheet.specs.declared.row.FourSides.{FourSides}
 use Rattle.sheet.specs.declared.row.GuardBands.{GuardBands}
-use Rattle.sheet.specs.declared.row.PackedSides.{PackedSides}
+use Rattle.geometry.specs.declared.place.Sides.{Sides}
 use Rattle.sheet.specs.declared.row.Row.{Row}
 use Rattle.sheet.specs.declared.row.SheetSides.{SheetSides}
 use Rattle.sheet.specs.Blocked.{walls, forbidden, against, blocked, SmallSpot, SearchFinds}
-use Rattle.sheet.specs.Claims.{any, all, reaches, widened, claim, fits, claim_inside, overlap, meets, meets_any}
+use Rattle.sheet.specs.Claims.{reaches, widened, claim, fits, claim_inside, overlap, meets, meets_any}
 use Rattle.sheet.specs.Rules.{Content, empty_picture, empty_row, verdict, room_checks, drafted, free, found}
 use Rattle.sheet.specs.Sound.{sound, sound_rows}
 use Rattle.sheet.proofs.Rows.{faultless, each_sound}
@@ -26,38 +26,36 @@ use Rattle.sheet.specs.Serving.{Sided}
 use Rattle.sheet.proofs.Sided.{sided}
 
 or_assoc : (x y z : Bool) → (x || (y || z)) ≡ ((x || y) || z)
-or_assoc true y z = refl
-or_assoc false y z = refl
+or_assoc x y z = grind (arith, nat_tests)
 
 covers_append : (a b : List Bounds) (y x : ℕ) → covers (a ++ b) y x ≡ (covers a y x || covers b y x)
 covers_append [] b y x = refl
 covers_append (o ∷ a) b y x =
     ap (λ (r : Bool). has o y x || r) (covers_append a b y x) ∙ or_assoc (has o y x) (covers a y x) (covers b y x)
 
-covers_joined : {X : Type 0} (f : X → List Bounds) (xs : List X) (y x : ℕ) → covers (flat_map f xs) y x ≡ any (λ s. covers (f s) y x) xs
+covers_joined : {X : Type 0} (f : X → List Bounds) (xs : List X) (y x : ℕ) → covers (flat_map f xs) y x ≡ list_any (λ s. covers (f s) y x) xs
 covers_joined f [] y x = refl
 covers_joined f (s ∷ xs) y x =
     covers_append (f s) (flat_map f xs) y x ∙ ap (λ (r : Bool). covers (f s) y x || r) (covers_joined f xs y x)
 
-covers_map : {X : Type 0} (g : X → Bounds) (xs : List X) (y x : ℕ) → covers (map g xs) y x ≡ any (λ c. has (g c) y x) xs
+covers_map : {X : Type 0} (g : X → Bounds) (xs : List X) (y x : ℕ) → covers (map g xs) y x ≡ list_any (λ c. has (g c) y x) xs
 covers_map g [] y x = refl
 covers_map g (c ∷ xs) y x = ap (λ (r : Bool). has (g c) y x || r) (covers_map g xs y x)
 
-any_same : {X : Type 0} (p q : X → Bool) (xs : List X) → AllByRecursion (λ x. p x ≡ q x) xs → any p xs ≡ any q xs
+any_same : {X : Type 0} (p q : X → Bool) (xs : List X) → AllByRecursion (λ x. p x ≡ q x) xs → list_any p xs ≡ list_any q xs
 any_same p q [] h = refl
 any_same p q (x ∷ xs) (h, hs) = ap₂ (λ (a b : Bool). a || b) h (any_same p q xs hs)
 
-any_map : {X Y : Type 0} (p : Y → Bool) (g : X → Y) (xs : List X) → any p (map g xs) ≡ any (λ x. p (g x)) xs
+any_map : {X Y : Type 0} (p : Y → Bool) (g : X → Y) (xs : List X) → list_any p (map g xs) ≡ list_any (λ x. p (g x)) xs
 any_map p g [] = refl
 any_map p g (x ∷ xs) = ap (λ (r : Bool). p (g x) || r) (any_map p g xs)
 
-any_not : {X : Type 0} (p : X → Bool) (xs : List X) → any (λ x. not (p x)) xs ≡ not (all p xs)
+any_not : {X : Type 0} (p : X → Bool) (xs : List X) → list_any (λ x. not (p x)) xs ≡ not (list_all p xs)
 any_not p [] = refl
-any_not p (x ∷ xs) = ap (λ (r : Bool). not (p x) || r) (any_not p xs) ∙ de_morgan (p x) (all p xs)
+any_not p (x ∷ xs) = ap (λ (r : Bool). not (p x) || r) (any_not p xs) ∙ de_morgan (p x) (list_all p xs)
   where
     de_morgan : (a b : Bool) → (not a || not b) ≡ not (a && b)
-    de_morgan true b = refl
-    de_morgan false b = refl
+    de_morgan a b = grind (arith, nat_tests)
 
 all_of : {X : Type 0} (P : X → Type 0) → ((x : X) → P x) → (xs : List X) → AllByRecursion P xs
 all_of P h [] = tt
@@ -77,7 +75,7 @@ ends r h = go r.bands
     go None = ((omega (arith, sides.wide), omega (arith, sides.high)), tt)
     go (Some x) = ((omega (arith, sides.wide), omega (arith, sides.high)), tt)
 
-wall : (p : PackedSides) (d : Draft) (t l : ℕ) (s : FourSides) → t < p.height → l < p.width →
+wall : (p : Sides ℕ) (d : Draft) (t l : ℕ) (s : FourSides) → t < p.height → l < p.width →
     covers (walls p d s) t l ≡ not (fits p (drafted d t l).body s)
 wall p d t l s high near = grind (arith, nat_tests)
 
@@ -94,11 +92,10 @@ against_meets d t l r h =
     covers_map (forbidden d s) (claim r) t l
     ∙ any_same _ _ (claim r) (All-weaker Ends _ (λ c e. forbid d t l s c e) (claim r) (ends r h)))
     (reaches d.bands))
-    ∙ sym (any_map (λ a. any (overlap a) (claim r)) (widened (drafted d t l).body) (reaches d.bands))
+    ∙ sym (any_map (λ a. list_any (overlap a) (claim r)) (widened (drafted d t l).body) (reaches d.bands))
 
 both : (inside meet : Bool) → (inside && not meet) ≡ not (not inside || meet)
-both true m = refl
-both false m = refl
+both inside meet = grind (arith, nat_tests)
 
 module _ (c : Content) (d : Draft) (solid : AllByRecursion (λ r. empty_row r ≡ false) c.rows) where
   free_clear : (t l : ℕ) → t < c.sides.packed.height → l < c.sides.packed.width →
@@ -153,9 +150,7 @@ found_room c d s e =
   where
     passes : (x y : Bool) (f g : Refusal) → (x && not y) ≡ true →
         ◌≡◌ {A = Result Unit Refusal} (Ok tt) (cond (not x) (Err f) (cond y (Err g) (Ok tt)))
-    passes true false f g h = refl
-    passes true true f g h = absurd (false≢true h)
-    passes false y f g h = absurd (false≢true h)
+    passes x y f g h = grind (arith, nat_tests)
 
 found_small : (c : Content) (d : Draft) (r : Option Spot) → found c d ≡ r →
     c.sides.packed.height < 65536 → c.sides.packed.width < 65536 → SmallSpot r

@@ -1,6 +1,6 @@
 -- What a granted call tells of its checks, and what it leaves.
 use Rattle.std.proofs.Common.{◌≡◌, ℕ, ◌+◌, ◌<◌, ◌≤◌, Bool, true, false, cond, not, List, [], ◌∷◌, ◌++◌, length, set, IfErr, Ok, Err, Result, sym, refl, ap, ◌∙◌, arith}
-use Rattle.std.specs.List.{remove, AllByRecursion}
+use Rattle.std.specs.List.{AllByRecursion}
 use Rattle.std.proofs.lemmas.List.{length-take-le, take_more_set}
 use Rattle.std.proofs.lemmas.Bool.{and_parts, and_from, leb-false, cond-false, not-false}
 use Rattle.refusal.specs.declared.Refusal.{Refusal}
@@ -10,7 +10,7 @@ use Rattle.sheet.specs.Claims.{claim_inside}
 use Rattle.sheet.specs.Held.{held}
 use Rattle.sheet.specs.Rules.{Content, Check, verdict, shape_checks, room_checks, with_rows, empty_picture}
 use Rattle.sheet.specs.Sound.{sound, sound_rows, sound_row}
-use Rattle.sheet.proofs.Rows.{sound_push, sound_removed, sound_from}
+use Rattle.sheet.proofs.Rows.{sound_push, sound_from}
 
 ok_step : (b : Bool) (f : Refusal) (x : Result Unit Refusal) (u : Unit) → Ok u ≡ cond b (Err f) x → (b ≡ false) × (Ok u ≡ x)
 ok_step true f x u e = let z : ◌≡◌ {A = ℕ} 0 1 = cc in absurd (omega arith)
@@ -73,20 +73,3 @@ module _ (t : Table) (r : Row) (whole : length t.rows ≡ 255) (few : t.len ≤ 
 
   pub laid_sound : Ok tt ≡ verdict (room_checks (held t) r) → sound (held t) ≡ true → sound (held (laid_table t r)) ≡ true
   laid_sound room h = ap sound laid_held ∙ push_sound (held t) r shape room h
-
-pub lift_sound : (c : Content) (rows : List Row) (i : ℕ) → rows ≡ remove c.rows i → sound c ≡ true → sound (with_rows c rows) ≡ true
-lift_sound c rows i e h =
-    let a = and_parts (not (empty_picture c.sides)) (sound_rows c.sides c.rows) h in
-    ap (λ l. sound (with_rows c l)) e
-    ∙ and_from (not (empty_picture c.sides)) (sound_rows c.sides (remove c.rows i)) a.0 (sound_removed c.sides c.rows i a.1)
-
--- where two lists of checks pass, each does
-pub verdict_first : (xs ys : List Check) → Ok tt ≡ verdict (xs ++ ys) → Ok tt ≡ verdict xs
-verdict_first [] ys e = refl
-verdict_first (x ∷ xs) ys e =
-    let s = ok_step x.fails x.with (verdict (xs ++ ys)) tt e in
-    verdict_first xs ys s.1 ∙ sym (cond-false x.fails (Err x.with) (verdict xs) s.0)
-
-pub verdict_rest : (xs ys : List Check) → Ok tt ≡ verdict (xs ++ ys) → Ok tt ≡ verdict ys
-verdict_rest [] ys e = e
-verdict_rest (x ∷ xs) ys e = verdict_rest xs ys (ok_step x.fails x.with (verdict (xs ++ ys)) tt e).1

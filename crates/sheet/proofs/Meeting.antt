@@ -1,13 +1,13 @@
 -- Claims that share a sample are those that the test finds.
-use Rattle.std.proofs.Common.{◌≡◌, ℕ, ◌<◌, ◌≤◌, max, Bool, true, false, ◌&&◌, ◌||◌, ltb, ◌⊎◌, List, [], ◌∷◌, map, Some, None, Option, refl, inl, inr, arith}
-use Rattle.std.specs.List.{AllByRecursion}
-use Rattle.std.proofs.lemmas.Bool.{and_parts, and_from, or_cases, or_left, or_right, both_ways, ltb-true, lt-ltb}
+use Rattle.std.proofs.Common.{◌≡◌, ℕ, ◌<◌, ◌≤◌, max, Bool, true, false, ◌||◌, ◌⊎◌, List, [], ◌∷◌, map, Some, None, Option, refl, inl, inr, arith}
+use Rattle.std.specs.List.{AllByRecursion, list_any}
+use Rattle.std.proofs.lemmas.Bool.{or_cases, or_left, or_right, both_ways}
+use Rattle.std.proofs.lemmas.Bool.Decides.{nat_tests}
 use Rattle.geometry.specs.declared.bounds.Bounds.{Bounds}
-use Rattle.geometry.specs.Boxes.{lies, has, covers}
-use Rattle.geometry.proofs.Jumping.{lies_in, in_lies}
+use Rattle.geometry.specs.Boxes.{has, covers}
 use Rattle.sheet.specs.declared.row.GuardBands.{GuardBands}
 use Rattle.sheet.specs.declared.row.Row.{Row}
-use Rattle.sheet.specs.Claims.{any, reaches, widened, claim, overlap, meets}
+use Rattle.sheet.specs.Claims.{reaches, widened, claim, overlap, meets}
 use Rattle.sheet.specs.Rules.{empty_row}
 use Rattle.sheet.specs.Words.{Meet, Tested}
 use Rattle.sheet.specs.Serving.{Sided}
@@ -22,15 +22,15 @@ pub record In (o : Bounds) (y x : ℕ) : Type 0 where
 
 pub in_from : (o : Bounds) (y x : ℕ) → has o y x ≡ true → In o y x
 in_from o y x h =
-    let (v, u) = and_parts (lies o.top o.bottom y) (lies o.left o.right x) h in
-    let (a, b) = lies_in o.top o.bottom y v in
-    let (c, d) = lies_in o.left o.right x u in
-    record { top = a; bottom = b; left = c; right = d }
+    record {
+      top = grind (arith, nat_tests);
+      bottom = grind (arith, nat_tests);
+      left = grind (arith, nat_tests);
+      right = grind (arith, nat_tests);
+    }
 
 pub has_from : (o : Bounds) (y x : ℕ) → In o y x → has o y x ≡ true
-has_from o y x i =
-    and_from (lies o.top o.bottom y) (lies o.left o.right x)
-    (in_lies o.top o.bottom y i.top i.bottom) (in_lies o.left o.right x i.left i.right)
+has_from o y x i = grind (arith, nat_tests)
 
 -- two boxes that overlap, by four orders
 record Crossed (a b : Bounds) : Type 0 where
@@ -41,44 +41,24 @@ record Crossed (a b : Bounds) : Type 0 where
 
 crossed : (a b : Bounds) → overlap a b ≡ true → Crossed a b
 crossed a b h =
-    let w = ltb a.left b.right in
-    let e = ltb b.left a.right in
-    let n = ltb a.top b.bottom in
-    let (three, last) = and_parts (w && e && n) (ltb b.top a.bottom) h in
-    let (two, third) = and_parts (w && e) n three in
-    let (first, second) = and_parts w e two in
     record {
-      w = ltb-true a.left b.right first;
-      e = ltb-true b.left a.right second;
-      n = ltb-true a.top b.bottom third;
-      s = ltb-true b.top a.bottom last;
+      w = grind (arith, nat_tests);
+      e = grind (arith, nat_tests);
+      n = grind (arith, nat_tests);
+      s = grind (arith, nat_tests);
     }
-
-overlap_from : (a b : Bounds) → Crossed a b → overlap a b ≡ true
-overlap_from a b c =
-    let w = ltb a.left b.right in
-    let e = ltb b.left a.right in
-    let n = ltb a.top b.bottom in
-    and_from (w && e && n) (ltb b.top a.bottom)
-    (and_from (w && e) n
-    (and_from w e (lt-ltb a.left b.right c.w) (lt-ltb b.left a.right c.e))
-    (lt-ltb a.top b.bottom c.n))
-    (lt-ltb b.top a.bottom c.s)
 
 -- a place that both boxes have
 has_overlap : (a b : Bounds) (y x : ℕ) → has a y x ≡ true → has b y x ≡ true → overlap a b ≡ true
-has_overlap a b y x ha hb =
-    let i : In a y x = in_from a y x ha in
-    let j : In b y x = in_from b y x hb in
-    overlap_from a b (record { w = omega arith; e = omega arith; n = omega arith; s = omega arith })
+has_overlap a b y x ha hb = grind (arith, nat_tests)
 
-overlaps_one : (a : Bounds) (d : List Bounds) (y x : ℕ) → has a y x ≡ true → covers d y x ≡ true → any (overlap a) d ≡ true
+overlaps_one : (a : Bounds) (d : List Bounds) (y x : ℕ) → has a y x ≡ true → covers d y x ≡ true → list_any (overlap a) d ≡ true
 overlaps_one a [] y x ha h = h
 overlaps_one a (b ∷ d) y x ha h = go (or_cases (has b y x) (covers d y x) h) (overlaps_one a d y x ha)
   where
-    go : ((has b y x ≡ true) ⊎ (covers d y x ≡ true)) → (covers d y x ≡ true → any (overlap a) d ≡ true) → any (overlap a) (b ∷ d) ≡ true
-    go (inl here) ih = or_left (overlap a b) (any (overlap a) d) (has_overlap a b y x ha here)
-    go (inr later) ih = or_right (overlap a b) (any (overlap a) d) (ih later)
+    go : ((has b y x ≡ true) ⊎ (covers d y x ≡ true)) → (covers d y x ≡ true → list_any (overlap a) d ≡ true) → list_any (overlap a) (b ∷ d) ≡ true
+    go (inl here) ih = or_left (overlap a b) (list_any (overlap a) d) (has_overlap a b y x ha here)
+    go (inr later) ih = or_right (overlap a b) (list_any (overlap a) d) (ih later)
 
 -- a shared sample is found
 pub shared_meets : (c d : List Bounds) (y x : ℕ) → covers c y x ≡ true → covers d y x ≡ true → meets c d ≡ true
@@ -86,8 +66,8 @@ shared_meets [] d y x hc hd = hc
 shared_meets (a ∷ c) d y x hc hd = go (or_cases (has a y x) (covers c y x) hc) (λ h. shared_meets c d y x h hd)
   where
     go : ((has a y x ≡ true) ⊎ (covers c y x ≡ true)) → (covers c y x ≡ true → meets c d ≡ true) → meets (a ∷ c) d ≡ true
-    go (inl here) ih = or_left (any (overlap a) d) (meets c d) (overlaps_one a d y x here hd)
-    go (inr later) ih = or_right (any (overlap a) d) (meets c d) (ih later)
+    go (inl here) ih = or_left (list_any (overlap a) d) (meets c d) (overlaps_one a d y x here hd)
+    go (inr later) ih = or_right (list_any (overlap a) d) (meets c d) (ih later)
 
 -- a box that has places
 pub record Solid (o : Bounds) : Type 0 where
@@ -111,11 +91,11 @@ only : (b : Bool) → (b || false) ≡ true → b ≡ true
 only true h = refl
 only false h = h
 
-one_shared : (a : Bounds) (d : List Bounds) → Solid a → AllByRecursion Solid d → any (overlap a) d ≡ true → Meet (a ∷ []) d
+one_shared : (a : Bounds) (d : List Bounds) → Solid a → AllByRecursion Solid d → list_any (overlap a) d ≡ true → Meet (a ∷ []) d
 one_shared a [] sa sd h = absurd (both_ways false refl h)
-one_shared a (b ∷ d) sa (sb, sd) h = go (or_cases (overlap a b) (any (overlap a) d) h) (one_shared a d sa sd)
+one_shared a (b ∷ d) sa (sb, sd) h = go (or_cases (overlap a b) (list_any (overlap a) d) h) (one_shared a d sa sd)
   where
-    go : ((overlap a b ≡ true) ⊎ (any (overlap a) d ≡ true)) → (any (overlap a) d ≡ true → Meet (a ∷ []) d) → Meet (a ∷ []) (b ∷ d)
+    go : ((overlap a b ≡ true) ⊎ (list_any (overlap a) d ≡ true)) → (list_any (overlap a) d ≡ true → Meet (a ∷ []) d) → Meet (a ∷ []) (b ∷ d)
     go (inl here) ih =
         let m : Meet (a ∷ []) (b ∷ []) = box_shared a b sa sb here in
         record { y = m.y; x = m.x; first = m.first; second = or_left (has b m.y m.x) (covers d m.y m.x) (only (has b m.y m.x) m.second) }
@@ -125,9 +105,9 @@ one_shared a (b ∷ d) sa (sb, sd) h = go (or_cases (overlap a b) (any (overlap 
 
 meets_shared : (c d : List Bounds) → AllByRecursion Solid c → AllByRecursion Solid d → meets c d ≡ true → Meet c d
 meets_shared [] d sc sd h = absurd (both_ways false refl h)
-meets_shared (a ∷ c) d (sa, sc) sd h = go (or_cases (any (overlap a) d) (meets c d) h) (meets_shared c d sc sd)
+meets_shared (a ∷ c) d (sa, sc) sd h = go (or_cases (list_any (overlap a) d) (meets c d) h) (meets_shared c d sc sd)
   where
-    go : ((any (overlap a) d ≡ true) ⊎ (meets c d ≡ true)) → (meets c d ≡ true → Meet c d) → Meet (a ∷ c) d
+    go : ((list_any (overlap a) d ≡ true) ⊎ (meets c d ≡ true)) → (meets c d ≡ true → Meet c d) → Meet (a ∷ c) d
     go (inl here) ih =
         let m : Meet (a ∷ []) d = one_shared a d sa sd here in
         record { y = m.y; x = m.x; first = or_left (has a m.y m.x) (covers c m.y m.x) (only (has a m.y m.x) m.first); second = m.second }

@@ -1,36 +1,33 @@
 -- Lists of rows under the edits.
 use Rattle.std.proofs.Common.{◌≡◌, ℕ, zero, suc, Bool, true, false, not, ◌&&◌, ◌||◌, List, [], ◌∷◌, ◌++◌, sym, refl, ap, ◌∙◌, ap₂, arith}
-use Rattle.std.specs.List.{remove, AllByRecursion}
-use Rattle.std.proofs.lemmas.Bool.{and_parts, and_from, or_parts, or_from, not-true, not_from_false}
+use Rattle.std.specs.List.{remove, AllByRecursion, list_any}
+use Rattle.std.proofs.lemmas.Bool.{and_parts, or_parts, or_from, not-true}
 use Rattle.std.proofs.lemmas.Bool.Decides.{nat_tests}
 use Rattle.geometry.specs.declared.bounds.Bounds.{Bounds}
 use Rattle.sheet.specs.declared.row.Row.{Row}
 use Rattle.sheet.specs.declared.row.SheetSides.{SheetSides}
-use Rattle.sheet.specs.Claims.{any, claim, overlap, meets, meets_any, claim_inside}
+use Rattle.sheet.specs.Claims.{claim, overlap, meets, meets_any, claim_inside}
 use Rattle.sheet.specs.Rules.{empty_row, bad_bands, bad_turn, leaves_projected}
 use Rattle.sheet.specs.Sound.{sound_row, sound_rows}
 
-any_false : {X : Type 0} (xs : List X) → any (λ (x : X). false) xs ≡ false
+any_false : {X : Type 0} (xs : List X) → list_any (λ (x : X). false) xs ≡ false
 any_false [] = refl
 any_false (x ∷ xs) = any_false xs
 
-any_or : {X : Type 0} (p q : X → Bool) (xs : List X) → (any p xs || any q xs) ≡ any (λ x. p x || q x) xs
+any_or : {X : Type 0} (p q : X → Bool) (xs : List X) → (list_any p xs || list_any q xs) ≡ list_any (λ x. p x || q x) xs
 any_or p q [] = refl
-any_or p q (x ∷ xs) = shuffle (p x) (any p xs) (q x) (any q xs) ∙ ap (λ (b : Bool). (p x || q x) || b) (any_or p q xs)
+any_or p q (x ∷ xs) = shuffle (p x) (list_any p xs) (q x) (list_any q xs) ∙ ap (λ (b : Bool). (p x || q x) || b) (any_or p q xs)
   where
     shuffle : (a b c d : Bool) → ((a || b) || (c || d)) ≡ ((a || c) || (b || d))
-    shuffle true b c d = refl
-    shuffle false true true d = refl
-    shuffle false true false d = refl
-    shuffle false false c d = refl
+    shuffle a b c d = grind (arith, nat_tests)
 
 any_swap : {X Y : Type 0} (f : X → Y → Bool) (xs : List X) (ys : List Y) →
-    any (λ x. any (λ y. f x y) ys) xs ≡ any (λ y. any (λ x. f x y) xs) ys
+    list_any (λ x. list_any (λ y. f x y) ys) xs ≡ list_any (λ y. list_any (λ x. f x y) xs) ys
 any_swap f [] ys = sym (any_false ys)
 any_swap f (x ∷ xs) ys =
-    ap (λ (b : Bool). any (f x) ys || b) (any_swap f xs ys) ∙ any_or (f x) (λ y. any (λ z. f z y) xs) ys
+    ap (λ (b : Bool). list_any (f x) ys || b) (any_swap f xs ys) ∙ any_or (f x) (λ y. list_any (λ z. f z y) xs) ys
 
-any_same : {X : Type 0} (p q : X → Bool) (xs : List X) → ((x : X) → p x ≡ q x) → any p xs ≡ any q xs
+any_same : {X : Type 0} (p q : X → Bool) (xs : List X) → ((x : X) → p x ≡ q x) → list_any p xs ≡ list_any q xs
 any_same p q [] h = refl
 any_same p q (x ∷ xs) h = ap₂ (λ (a b : Bool). a || b) (h x) (any_same p q xs h)
 
@@ -67,9 +64,7 @@ head_parts s r rows h =
 
 head_from : (s : SheetSides) (r : Row) (rows : List Row) → sound_row s r ≡ true → meets_any (claim r) rows ≡ false →
     sound_rows s rows ≡ true → sound_rows s (r ∷ rows) ≡ true
-head_from s r rows a b c =
-    and_from (sound_row s r && not (meets_any (claim r) rows)) (sound_rows s rows)
-    (and_from (sound_row s r) (not (meets_any (claim r) rows)) a (not_from_false (meets_any (claim r) rows) b)) c
+head_from s r rows a b c = grind (arith, nat_tests)
 
 pub sound_push : (s : SheetSides) (rows : List Row) (r : Row) → sound_rows s rows ≡ true → sound_row s r ≡ true →
     meets_any (claim r) rows ≡ false → sound_rows s (rows ++ r ∷ []) ≡ true
@@ -99,33 +94,16 @@ pub record FreeOfFaults (s : SheetSides) (r : Row) : Type 0 where
 
 pub faultless : (s : SheetSides) (r : Row) → sound_row s r ≡ true → FreeOfFaults s r
 faultless s r h =
-    let t = not (bad_turn r) in
-    let e = not (empty_row r) in
-    let b = not (bad_bands r.bands) in
-    let p = not (leaves_projected s.projected r.projected) in
-    let (four, last) = and_parts (t && e && b && p) (claim_inside s.packed r) h in
-    let (three, fourth) = and_parts (t && e && b) p four in
-    let (two, third) = and_parts (t && e) b three in
-    let (first, second) = and_parts t e two in
     record {
-      turn = not-true (bad_turn r) first;
-      sides = not-true (empty_row r) second;
-      bands = not-true (bad_bands r.bands) third;
-      projected = not-true (leaves_projected s.projected r.projected) fourth;
-      packed = last;
+      turn = grind (arith, nat_tests);
+      sides = grind (arith, nat_tests);
+      bands = grind (arith, nat_tests);
+      projected = grind (arith, nat_tests);
+      packed = grind (arith, nat_tests);
     }
 
 pub sound_from : (s : SheetSides) (r : Row) → FreeOfFaults s r → sound_row s r ≡ true
-sound_from s r f =
-    let t = not (bad_turn r) in
-    let e = not (empty_row r) in
-    let b = not (bad_bands r.bands) in
-    let p = not (leaves_projected s.projected r.projected) in
-    and_from (t && e && b && p) (claim_inside s.packed r)
-    (and_from (t && e && b) p
-    (and_from (t && e) b (and_from t e (not_from_false _ f.turn) (not_from_false _ f.sides)) (not_from_false _ f.bands))
-    (not_from_false _ f.projected))
-    f.packed
+sound_from s r f = grind (arith, nat_tests)
 
 -- every row of a sound list is sound
 pub each_sound : (s : SheetSides) (rows : List Row) → sound_rows s rows ≡ true → AllByRecursion (λ r. sound_row s r ≡ true) rows

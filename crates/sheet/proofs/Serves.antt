@@ -1,29 +1,25 @@
 -- The laws of serving.
-use Rattle.std.proofs.Common.{◌≡◌, ℕ, ◌+◌, ◌-◌, ◌<◌, ◌≤◌, Bool, true, false, cond, ltb, List, length, get_or, drop, Ok, Err, Option, Result, sym, ap, ◌∙◌, ap₂, arith}
-use Rattle.std.proofs.lemmas.List.{at_drop_more, at_drop_all}
-use Rattle.std.proofs.lemmas.Option.{slice_get-get_or, slice_get_past}
-use Rattle.std.specs.List.{slice_get}
-use Rattle.std.proofs.lemmas.Bool.{and_parts, and_from, cond-true, cond-false, lt-ltb}
+use Rattle.std.proofs.Common.{◌≡◌, ℕ, suc, ◌+◌, ◌-◌, ◌<◌, ◌≤◌, Bool, true, false, cond, ltb, List, [], ◌∷◌, length, get_or, Some, None, Ok, Err, Option, sym, refl, ap, ◌∙◌, ap₂, arith}
+use Rattle.std.specs.List.{position, position_from}
+use Rattle.std.proofs.lemmas.Iterator.Adapters.{position_from-zero}
+use Rattle.std.proofs.lemmas.Bool.{cond-true, cond-false}
+use Rattle.std.proofs.lemmas.Bool.Decides.{nat_tests}
 use Rattle.refusal.specs.declared.Refusal.{Refusal}
-use Rattle.refusal.specs.declared.Refusal.TheVariants.{NoSuchRow, NotCovered}
-use Rattle.geometry.specs.declared.place.PackedPlace.{PackedPlace}
+use Rattle.refusal.specs.declared.Refusal.TheVariants.{NotCovered}
 use Rattle.geometry.specs.declared.place.Place.{Place}
 use Rattle.geometry.specs.declared.place.Sides.{Sides}
 use Rattle.geometry.specs.declared.turn.Turn.{Turn}
-use Rattle.geometry.specs.Boxes.{lies}
 use Rattle.geometry.specs.Centre.{centre, centred}
 use Rattle.geometry.specs.Places.{inside, at, sides_of}
-use Rattle.geometry.specs.Positions.{located}
-use Rattle.geometry.specs.Turns.{turn, turn_of, from_code, field, forwards, backwards, unturned}
+use Rattle.geometry.specs.Turns.{turn, from_code, field, forwards, backwards, unturned}
 use Rattle.geometry.proofs.Centres as centres
 use Rattle.geometry.proofs.Insides.{Within, within, inside_from}
-use Rattle.geometry.proofs.Jumping.{lies_in, in_lies}
 use Rattle.geometry.proofs.Turning as turning
 use Rattle.sheet.specs.declared.row.Row.{Row}
-use Rattle.sheet.specs.Serving.{turn_in, field_of, located_in, centre_sample, covers_place, served_place, serving, Fine, Coarse, Sided, ServingLaws}
+use Rattle.sheet.specs.Serving.{turn_in, field_of, centre_sample, covers_place, served_place, serving, Fine, Coarse, Sided, ServingLaws}
 
 -- a field's sides are those of a body, perhaps exchanged
-field_pos : (t : Turn) (body : Sides) → 0 < body.width → 0 < body.height → (0 < (field t body).width) × (0 < (field t body).height)
+field_pos : (t : Turn) (body : Sides ℕ) → 0 < body.width → 0 < body.height → (0 < (field t body).width) × (0 < (field t body).height)
 field_pos t body w h = go t.transposed
   where
     go : (e : Bool) → (0 < (field (turn t.mirrored t.flipped e) body).width) × (0 < (field (turn t.mirrored t.flipped e) body).height)
@@ -39,19 +35,15 @@ pub record Covered (r : Row) (p : Place) : Type 0 where
 
 pub covered : (r : Row) (p : Place) → covers_place r p ≡ true → Covered r p
 covered r p h =
-    let x0 = r.projected.left in
-    let y0 = r.projected.top in
-    let (across, down) = and_parts (lies x0 (x0 + r.projected.width) p.x) (lies y0 (y0 + r.projected.height) p.y) h in
-    let (a, b) = lies_in x0 (x0 + r.projected.width) p.x across in
-    let (c, d) = lies_in y0 (y0 + r.projected.height) p.y down in
-    record { left = a; right = b; top = c; bottom = d }
+    record {
+      left = grind (arith, nat_tests);
+      right = grind (arith, nat_tests);
+      top = grind (arith, nat_tests);
+      bottom = grind (arith, nat_tests);
+    }
 
 covers_from : (r : Row) (p : Place) → Covered r p → covers_place r p ≡ true
-covers_from r p c =
-    let x0 = r.projected.left in
-    let y0 = r.projected.top in
-    and_from (lies x0 (x0 + r.projected.width) p.x) (lies y0 (y0 + r.projected.height) p.y)
-    (in_lies x0 (x0 + r.projected.width) p.x c.left c.right) (in_lies y0 (y0 + r.projected.height) p.y c.top c.bottom)
+covers_from r p c = grind (arith, nat_tests)
 
 -- the field's place that a covered place falls to
 abbrev cell : Row → Place → Place
@@ -129,41 +121,78 @@ served_steps r p t x y s h et ex ey =
     ap₂ (λ (u : Turn) (q : Place). unturned u (sides_of r.body) q) turned (ap₂ at across down)
     ∙ cond-true (inside (field_of r) (cell r p)) (Ok (served_place r p)) _ (cell_inside r p s h)
 
--- the loop over the rows: one that covers the place, one that does not, and none left
-pub serving_here : (rows : List Row) (p b : Place) (i : ℕ) (d : Row) → i < length rows →
-    serving i (drop i rows) p ≡ serving 0 rows p → true ≡ covers_place (get_or rows i d) p → ◌≡◌ {A = Result Place Refusal} (Ok b) (Ok (served_place (get_or rows i d) p)) →
-    Ok (record { row = i; place = record { 0 = b } }) ≡ serving 0 rows p
-serving_here rows p b i d lt inv e eb =
-    ap (λ (q : Place). Ok (record { row = i; place = record { 0 = q } })) (ok_same b (served_place (get_or rows i d) p) eb)
-    ∙ sym (cond-true (covers_place (get_or rows i d) p) _ _ (sym e))
-    ∙ sym (at_drop_more (λ xs. serving i xs p) rows i d lt)
-    ∙ inv
+-- what an array of rows reads where it has none
+abbrev pub no_row : Row
+no_row =
+    record {
+      projected = record { width = 0; height = 0; top = 0; left = 0 };
+      turn = 0;
+      body = record { width = 0; height = 0; top = 0; left = 0 };
+      bands = None;
+    }
+
+-- The row with number i covers the place first, among rows that are numbered from n.
+record ServedFirst (n i : ℕ) (rows : List Row) (p : Place) (d : Row) : Type 0 where
+  pub k : ℕ
+  pub numbered : i ≡ n + k
+  pub inside : k < length rows
+  pub covers : covers_place (get_or rows k d) p ≡ true
+  pub serves : Ok (record { row = i; place = record { 0 = served_place (get_or rows k d) p } }) ≡ serving n rows p
+
+serving_first : (n i : ℕ) (rows : List Row) (p : Place) (d : Row) → Some i ≡ position_from (λ r. covers_place r p) n rows →
+    ServedFirst n i rows p d
+serving_first n i [] p d h = let z : ◌≡◌ {A = ℕ} 0 1 = cc in absurd (omega arith)
+serving_first n i (r ∷ rows) p d h = go (covers_place r p) refl h (λ f. serving_first (n + 1) i rows p d f)
   where
-    ok_same : (x y : Place) → ◌≡◌ {A = Result Place Refusal} (Ok x) (Ok y) → x ≡ y
-    ok_same x y h = cc
+    later : Option ℕ
+    later = position_from (λ x. covers_place x p) (n + 1) rows
 
-pub serving_more : (rows : List Row) (p : Place) (i : ℕ) (d : Row) → i < length rows →
-    serving i (drop i rows) p ≡ serving 0 rows p → false ≡ covers_place (get_or rows i d) p →
-    serving (i + 1) (drop (i + 1) rows) p ≡ serving 0 rows p
-serving_more rows p i d lt inv e =
-    sym (cond-false (covers_place (get_or rows i d) p) _ _ (sym e)) ∙ sym (at_drop_more (λ xs. serving i xs p) rows i d lt) ∙ inv
+    go : (b : Bool) → covers_place r p ≡ b → Some i ≡ cond b (Some n) later → (Some i ≡ later → ServedFirst (n + 1) i rows p d) →
+        ServedFirst n i (r ∷ rows) p d
+    go true e f ih =
+        let here : i ≡ n = cc in
+        record {
+          k = 0;
+          numbered = omega arith;
+          inside = omega arith;
+          covers = e;
+          serves =
+              ap (λ (m : ℕ). Ok (record { row = m; place = record { 0 = served_place r p } })) here
+              ∙ sym (cond-true (covers_place r p) _ _ e);
+        }
+    go false e f ih =
+        let s = ih f in
+        record {
+          k = suc s.k;
+          numbered = omega (arith, s.numbered);
+          inside = omega (arith, s.inside);
+          covers = s.covers;
+          serves = s.serves ∙ sym (cond-false (covers_place r p) _ _ e);
+        }
 
-pub serving_none : (rows : List Row) (p : Place) (i : ℕ) → length rows ≤ i →
-    serving i (drop i rows) p ≡ serving 0 rows p → Err NotCovered ≡ serving 0 rows p
-serving_none rows p i le inv = sym (at_drop_all (λ xs. serving i xs p) rows i le) ∙ inv
+serving_nowhere : (n : ℕ) (rows : List Row) (p : Place) → None ≡ position_from (λ r. covers_place r p) n rows →
+    Err NotCovered ≡ serving n rows p
+serving_nowhere n [] p h = refl
+serving_nowhere n (r ∷ rows) p h = go (covers_place r p) refl h (serving_nowhere (n + 1) rows p)
+  where
+    later : Option ℕ
+    later = position_from (λ x. covers_place x p) (n + 1) rows
 
--- the position call, by what its steps give
-pub position_none : (rows : List Row) (n : ℕ) (p : PackedPlace) → length rows ≤ n → Err NoSuchRow ≡ located_in (slice_get rows n) p
-position_none rows n p le = ap (λ (o : Option Row). located_in o p) (sym (slice_get_past rows n le))
+    go : (b : Bool) → covers_place r p ≡ b → None ≡ cond b (Some n) later → (None ≡ later → Err NotCovered ≡ serving (n + 1) rows p) →
+        Err NotCovered ≡ serving n (r ∷ rows) p
+    go true e f ih = let z : ◌≡◌ {A = ℕ} 0 1 = cc in absurd (omega arith)
+    go false e f ih = ih f ∙ sym (cond-false (covers_place r p) _ _ e)
 
-pub position_some : (rows : List Row) (n : ℕ) (p : PackedPlace) (d : Row) (t : Turn) → n < length rows → Ok t ≡ from_code (get_or rows n d).turn →
-    located (get_or rows n d).projected t (get_or rows n d).body p ≡ located_in (slice_get rows n) p
-position_some rows n p d t lt et =
-    ap (λ (u : Turn). located (get_or rows n d).projected u (get_or rows n d).body p) (ok_of (ltb (get_or rows n d).turn 8) t _ _ et)
-    ∙ ap (λ (o : Option Row). located_in o p) (sym (slice_get-get_or rows n d lt))
+-- what the search for the first row that covers a place tells: its number, or that there is none
+module _ (rows : List Row) (p : Place) where
+  pub found_serves : (i : ℕ) (d : Row) → Some i ≡ position (λ r. covers_place r p) rows →
+      (covers_place (get_or rows i d) p ≡ true) × (Ok (record { row = i; place = record { 0 = served_place (get_or rows i d) p } }) ≡ serving 0 rows p)
+  found_serves i d h =
+      let s = serving_first 0 i rows p d (h ∙ position_from-zero (λ r. covers_place r p) rows) in
+      let same : s.k ≡ i = omega (arith, s.numbered) in (
+        ap (λ (m : ℕ). covers_place (get_or rows m d) p) (sym same) ∙ s.covers,
+        ap (λ (m : ℕ). Ok (record { row = i; place = record { 0 = served_place (get_or rows m d) p } })) (sym same) ∙ s.serves,
+      )
 
--- a code of a sheet's row is not refused
-pub no_fault : (code : ℕ) (e : Refusal) → code ≤ 7 → Err e ≡ from_code code → ⊥
-no_fault code e le h =
-    let g : from_code code ≡ Ok (turn_of code) = cond-true (ltb code 8) _ _ (lt-ltb code 8 (omega arith)) in
-    let z : ◌≡◌ {A = ℕ} 0 1 = cc in omega arith
+  pub none_serves : None ≡ position (λ r. covers_place r p) rows → Err NotCovered ≡ serving 0 rows p
+  none_serves h = serving_nowhere 0 rows p (h ∙ position_from-zero (λ r. covers_place r p) rows)

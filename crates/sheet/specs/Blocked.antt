@@ -6,7 +6,7 @@ use Rattle.geometry.specs.declared.search.Spot.{Spot}
 use Rattle.geometry.specs.FirstFree.{first_free}
 use Rattle.sheet.specs.declared.row.Draft.{Draft}
 use Rattle.sheet.specs.declared.row.FourSides.{FourSides}
-use Rattle.sheet.specs.declared.row.PackedSides.{PackedSides}
+use Rattle.geometry.specs.declared.place.Sides.{Sides}
 use Rattle.sheet.specs.declared.row.Row.{Row}
 use Rattle.sheet.specs.Claims.{reaches, claim}
 use Rattle.sheet.specs.Rules.{Content, found}
@@ -16,7 +16,7 @@ abbrev pub box : ℕ → ℕ → ℕ → ℕ → Bounds
 box top bottom left right = record { top = top; bottom = bottom; left = left; right = right }
 
 -- where a box of the claim would leave the packed picture: above, on the left, below, on the right
-abbrev pub walls : PackedSides → Draft → FourSides → List Bounds
+abbrev pub walls : Sides ℕ → Draft → FourSides → List Bounds
 walls p d s =
     box 0 s.top 0 p.width
     ∷ box 0 p.height 0 s.left
@@ -35,7 +35,7 @@ abbrev pub against : Draft → Row → List Bounds
 against d r = flat_map (λ s. map (forbidden d s) (claim r)) (reaches d.bands)
 
 -- all of them
-abbrev pub blocked : PackedSides → List Row → Draft → List Bounds
+abbrev pub blocked : Sides ℕ → List Row → Draft → List Bounds
 blocked p rows d = flat_map (walls p d) (reaches d.bands) ++ flat_map (against d) rows
 
 -- a box of a claim has small edges: two numbers of 16 bits and one of 8

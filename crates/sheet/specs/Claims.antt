@@ -1,21 +1,12 @@
 -- What a row claims of the packed picture: a list of boxes, each the body widened by so much on every side.
-use Rattle.std.specs.Prelude.{◌+◌, ◌-◌, Bool, true, false, ◌&&◌, ◌||◌, List, [], ◌∷◌, map, Some, None, Option, nat_le, nat_lt}
+use Rattle.std.specs.Prelude.{◌+◌, ◌-◌, Bool, ◌&&◌, List, [], ◌∷◌, map, Some, None, Option, nat_le, nat_lt, ℕ}
+use Rattle.std.specs.List.{list_all, list_any}
 use Rattle.geometry.specs.declared.bounds.Bounds.{Bounds}
-use Rattle.geometry.specs.declared.place.Body.{Body}
+use Rattle.geometry.specs.declared.place.Rectangle.{Rectangle}
 use Rattle.sheet.specs.declared.row.FourSides.{FourSides}
 use Rattle.sheet.specs.declared.row.GuardBands.{GuardBands}
-use Rattle.sheet.specs.declared.row.PackedSides.{PackedSides}
+use Rattle.geometry.specs.declared.place.Sides.{Sides}
 use Rattle.sheet.specs.declared.row.Row.{Row}
-
--- one of them passes
-abbrev pub any : {X : Type 0} → (X → Bool) → List X → Bool
-any p [] = false
-any p (x ∷ xs) = p x || any p xs
-
--- each of them passes
-abbrev pub all : {X : Type 0} → (X → Bool) → List X → Bool
-all p [] = true
-all p (x ∷ xs) = p x && all p xs
 
 -- not at all beyond the body
 abbrev pub no_reach : FourSides
@@ -27,7 +18,7 @@ reaches None = no_reach ∷ []
 reaches (Some bands) = bands.sizes ∷ []
 
 -- a body widened by so much on each side
-abbrev pub widened : Body → FourSides → Bounds
+abbrev pub widened : Rectangle ℕ → FourSides → Bounds
 widened b s =
     record {
       top = b.top - s.top;
@@ -41,7 +32,7 @@ abbrev pub claim : Row → List Bounds
 claim r = map (widened r.body) (reaches r.bands)
 
 -- a widened body lies inside the packed picture
-abbrev pub fits : PackedSides → Body → FourSides → Bool
+abbrev pub fits : Sides ℕ → Rectangle ℕ → FourSides → Bool
 fits p b s =
     nat_le s.left b.left
     && nat_le s.top b.top
@@ -49,8 +40,8 @@ fits p b s =
     && nat_le (b.top + b.height + s.bottom) p.height
 
 -- a row's claim lies inside the packed picture
-abbrev pub claim_inside : PackedSides → Row → Bool
-claim_inside p r = all (fits p r.body) (reaches r.bands)
+abbrev pub claim_inside : Sides ℕ → Row → Bool
+claim_inside p r = list_all (fits p r.body) (reaches r.bands)
 
 -- two boxes overlap
 abbrev pub overlap : Bounds → Bounds → Bool
@@ -59,8 +50,8 @@ overlap a b =
 
 -- two claims meet
 abbrev pub meets : List Bounds → List Bounds → Bool
-meets c d = any (λ a. any (overlap a) d) c
+meets c d = list_any (λ a. list_any (overlap a) d) c
 
 -- a claim meets that of one of the rows
 abbrev pub meets_any : List Bounds → List Row → Bool
-meets_any c rows = any (λ r. meets c (claim r)) rows
+meets_any c rows = list_any (λ r. meets c (claim r)) rows

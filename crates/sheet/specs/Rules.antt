@@ -1,9 +1,9 @@
 -- The content of a sheet, and what each call answers and leaves.
-use Rattle.std.specs.Prelude.{ℕ, ◌+◌, Bool, false, cond, not, ◌&&◌, ◌||◌, List, [], ◌∷◌, ◌++◌, length, Some, None, Ok, Err, Option, Result, ◌==◌, nat_le, nat_lt}
+use Rattle.std.specs.Prelude.{ℕ, ◌+◌, Bool, false, if◌then◌else◌, not, ◌&&◌, ◌||◌, List, [], ◌∷◌, ◌++◌, length, Some, None, Ok, Err, Option, Result, ◌==◌, nat_le, nat_lt}
 use Rattle.std.specs.List.{remove}
 use Rattle.refusal.specs.declared.Refusal.{Refusal}
 use Rattle.refusal.specs.declared.Refusal.TheVariants.{EmptySide, GuardBands as BandFault, TurnCode, LeavesProjected, ClaimLeaves, ClaimMeets, SheetFull, NoFreeSpot, NoSuchRow}
-use Rattle.geometry.specs.declared.place.ProjectedRectangle.{ProjectedRectangle}
+use Rattle.geometry.specs.declared.place.Rectangle.{Rectangle}
 use Rattle.geometry.specs.declared.place.Sides.{Sides}
 use Rattle.geometry.specs.declared.search.Spot.{Spot}
 use Rattle.geometry.specs.FirstFree.{first_spot}
@@ -60,7 +60,7 @@ abbrev pub bad_turn : Row → Bool
 bad_turn r = nat_lt 7 r.turn
 
 -- the projected rectangle leaves its picture
-abbrev pub leaves_projected : Sides → ProjectedRectangle → Bool
+abbrev pub leaves_projected : Sides ℕ → Rectangle ℕ → Bool
 leaves_projected s p = nat_lt s.width (p.left + p.width) || nat_lt s.height (p.top + p.height)
 
 -- a check: where it fails, the call is refused with this
@@ -74,7 +74,7 @@ check fails with = record { fails = fails; with = with }
 -- the first check that fails decides
 abbrev pub verdict : List Check → Result Unit Refusal
 verdict [] = Ok tt
-verdict (c ∷ cs) = cond c.fails (Err c.with) (verdict cs)
+verdict (c ∷ cs) = if c.fails then Err c.with else verdict cs
 
 -- what a call leaves: the one where it is granted, the other where it is refused
 abbrev pub after : {X : Type 0} → Result X Refusal → (X → Content) → Content → Content

@@ -1,5 +1,5 @@
 -- Positions, centre samples, covering and serving.
-use Rattle.std.specs.Prelude.{◌≡◌, ℕ, ◌+◌, ◌-◌, ◌<◌, ◌≤◌, Bool, true, cond, ◌&&◌, List, [], ◌∷◌, Some, None, Ok, Err, Option, Result}
+use Rattle.std.specs.Prelude.{◌≡◌, ℕ, ◌+◌, ◌-◌, ◌<◌, ◌≤◌, Bool, true, if◌then◌else◌, ◌&&◌, List, [], ◌∷◌, Some, None, Ok, Err, Option, Result}
 use Rattle.std.specs.List.{slice_get}
 use Rattle.refusal.specs.declared.Refusal.{Refusal}
 use Rattle.refusal.specs.declared.Refusal.TheVariants.{NoSuchRow, PlaceOutside, NotCovered}
@@ -23,7 +23,7 @@ abbrev pub turn_in : Row → Turn
 turn_in r = turn_of r.turn
 
 -- the sides of the field that a row's turn makes of its body: a across and d down
-abbrev pub field_of : Row → Sides
+abbrev pub field_of : Row → Sides ℕ
 field_of r = field (turn_in r) (sides_of r.body)
 
 -- the position of a place of a row's body
@@ -58,10 +58,10 @@ served_place r p =
 abbrev pub serving : ℕ → List Row → Place → Result Served Refusal
 serving n [] p = Err NotCovered
 serving n (r ∷ rows) p =
-    cond (covers_place r p) (Ok (record { row = n; place = record { 0 = served_place r p } })) (serving (n + 1) rows p)
+    if covers_place r p then Ok (record { row = n; place = record { 0 = served_place r p } }) else serving (n + 1) rows p
 
 abbrev pub serve_answer : Content → ProjectedPlace → Result Served Refusal
-serve_answer c p = cond (inside c.sides.projected p.0) (serving 0 c.rows p.0) (Err PlaceOutside)
+serve_answer c p = if inside c.sides.projected p.0 then serving 0 c.rows p.0 else Err PlaceOutside
 
 -- A row is fine: its field has at least as many columns and lines as its projected rectangle.
 pub record Fine (r : Row) : Type 0 where

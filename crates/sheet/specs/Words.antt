@@ -8,7 +8,7 @@ use Rattle.geometry.specs.declared.search.Spot.{Spot}
 use Rattle.geometry.specs.Boxes.{has, covers}
 use Rattle.geometry.specs.FirstFree.{Later}
 use Rattle.sheet.specs.declared.row.Draft.{Draft}
-use Rattle.sheet.specs.declared.row.PackedSides.{PackedSides}
+use Rattle.geometry.specs.declared.place.Sides.{Sides}
 use Rattle.sheet.specs.declared.row.Row.{Row}
 use Rattle.sheet.specs.declared.row.SheetSides.{SheetSides}
 use Rattle.sheet.specs.Claims.{no_reach, widened, claim, claim_inside, meets}
@@ -45,7 +45,7 @@ abbrev pub ClaimedOnce : List Row → Type 0
 ClaimedOnce rows = (m n y x : ℕ) → Claims rows m y x → Claims rows n y x → m ≡ n
 
 -- Bodies lie inside the packed picture and apart.
-pub record Bodies (packed : PackedSides) (rows : List Row) : Type 0 where
+pub record Bodies (packed : Sides ℕ) (rows : List Row) : Type 0 where
   pub inside : (n y x : ℕ) → InBody rows n y x → (x < packed.width) × (y < packed.height)
   pub apart : (m n y x : ℕ) → InBody rows m y x → InBody rows n y x → m ≡ n
 

@@ -1,8 +1,8 @@
 // Claims in code: the boxes of a row, and whether they lie inside and apart.
 ghost use Rattle.std.specs.Prelude.{◌≡◌};
-ghost use Rattle.std.specs.List.{AllByRecursion};
+ghost use Rattle.std.specs.List.{AllByRecursion, list_any};
 ghost use Rattle.sheet.specs.Blocked.{Small};
-ghost use Rattle.sheet.specs.Claims.{reaches, widened, claim, fits, claim_inside, overlap, any, meets, meets_any};
+ghost use Rattle.sheet.specs.Claims.{reaches, widened, claim, fits, claim_inside, overlap, meets, meets_any};
 
 use crate::row::{FourSides, GuardBands, PackedSides, Row};
 use geometry::{Body, Bounds};
@@ -21,21 +21,19 @@ const NO_REACH: FourSides = FourSides {
 pub(crate) fn reaches(bands: Option<GuardBands>) -> [FourSides; PARTS]
     ensures { result ≡ reaches bands }
 {
-    match bands {
-        None => [NO_REACH],
-        Some(b) => [b.sizes],
-    }
+    [bands.map_or(NO_REACH, |b| b.sizes)]
 }
 
 fn widened(body: Body, reach: FourSides) -> Bounds
     ensures value { result ≡ widened body reach }
     ensures small { Small result }
 {
+    let body = Bounds::from(body);
     Bounds {
-        top: (body.top as u32).saturating_sub(reach.top as u32),
-        bottom: body.top as u32 + body.height as u32 + reach.bottom as u32,
-        left: (body.left as u32).saturating_sub(reach.left as u32),
-        right: body.left as u32 + body.width as u32 + reach.right as u32,
+        top: body.top.saturating_sub(u32::from(reach.top)),
+        bottom: body.bottom + u32::from(reach.bottom),
+        left: body.left.saturating_sub(u32::from(reach.left)),
+        right: body.right + u32::from(reach.right),
     }
 }
 
@@ -51,10 +49,11 @@ pub fn claim(row: &Row) -> [Bounds; PARTS]
 fn fits(packed: PackedSides, body: Body, reach: FourSides) -> bool
     ensures { result ≡ fits packed body reach }
 {
-    reach.left as u16 <= body.left
-        && reach.top as u16 <= body.top
-        && body.left as u32 + body.width as u32 + reach.right as u32 <= packed.width as u32
-        && body.top as u32 + body.height as u32 + reach.bottom as u32 <= packed.height as u32
+    let there = Bounds::from(body);
+    u32::from(reach.left) <= there.left
+        && u32::from(reach.top) <= there.top
+        && there.right + u32::from(reach.right) <= u32::from(packed.width)
+        && there.bottom + u32::from(reach.bottom) <= u32::from(packed.height)
 }
 
 // Whether a row's claim lies inside the packed picture.
@@ -72,36 +71,21 @@ fn overlap(a: &Bounds, b: &Bounds) -> bool
 }
 
 fn overlaps_some(a: &Bounds, boxes: &[Bounds]) -> bool
-    ensures { result ≡ any (overlap a.now) boxes.now }
+    ensures { result ≡ list_any (overlap a.now) boxes.now }
 {
-    for b in boxes {
-        if overlap(a, b) {
-            return true;
-        }
-    }
-    false
+    boxes.iter().any(|b| overlap(a, b))
 }
 
 // Whether two claims share a sample.
 fn meet(claim: &[Bounds], other: &[Bounds]) -> bool
     ensures { result ≡ meets claim.now other.now }
 {
-    for a in claim {
-        if overlaps_some(a, other) {
-            return true;
-        }
-    }
-    false
+    claim.iter().any(|a| overlaps_some(a, other))
 }
 
 // Whether a claim shares a sample with that of one of the rows.
 pub(crate) fn meets_some(claim_there: &[Bounds], rows: &[Row]) -> bool
     ensures { result ≡ meets_any claim_there.now rows.now }
 {
-    for row in rows {
-        if meet(claim_there, &claim(row)) {
-            return true;
-        }
-    }
-    false
+    rows.iter().any(|row| meet(claim_there, &claim(row)))
 }

@@ -12,7 +12,5 @@ pub(crate) fn close_gap(rows: &mut [Row], i: usize, n: usize)
     ensures rows { take (n - 1) rows.new ≡ remove (take n rows.old) i }
     ensures sound { (s : SheetSides) → sound_rows s (take n rows.old) ≡ true → sound_rows s (take (n - 1) rows.new) ≡ true }
 {
-    for k in i..n - 1 {
-        rows[k] = rows[k + 1];
-    }
+    rows.copy_within(i + 1..n, i);
 }

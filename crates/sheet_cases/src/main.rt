@@ -1,10 +1,12 @@
 // Runs lists of edits, positions and serving from standard input, to be compared with what tools/sheet_cases.py wrote.
 #![tactic(auto)]
 
-mod lines;
+mod answer;
+mod call;
 
+use answer::run_call;
+use call::read_call;
 use geometry::{Body, ProjectedRectangle, Sides, Spot};
-use lines::run_line;
 use sheet::{Draft, PackedSides, Row, Sheet, SheetSides};
 
 const SIDE: u16 = 65535;
@@ -59,10 +61,27 @@ fn largest(sheet: &mut Sheet) -> Option<Spot> {
         height: 1,
         bands: None,
     };
-    match sheet.place(draft) {
-        Ok(spot) => Some(spot),
-        Err(_) => None,
+    sheet.place(draft).ok()
+}
+
+// `new` begins with a new sheet; every other line is a call, whose answer is printed.
+fn run_line(rt: &HostRuntime, sheet: &mut Sheet, line: &str) -> anyhow::Result<()> {
+    if line.split_whitespace().next() == Some("new") {
+        *sheet = Sheet::new();
+        return Ok(());
     }
+    let Some(call) = read_call(rt, line)? else {
+        return Ok(());
+    };
+    // By hand, since a `Result` can have no `Display` of ours.
+    match run_call(sheet, call) {
+        Ok(answer) => println!(rt; "{answer}")?,
+        Err(refusal) => {
+            let number = refusal.number();
+            println!(rt; "refused {number}")?;
+        }
+    }
+    Ok(())
 }
 
 fn run(rt: &HostRuntime) -> anyhow::Result<()> {
@@ -71,6 +90,7 @@ fn run(rt: &HostRuntime) -> anyhow::Result<()> {
         let text = line?;
         run_line(rt, &mut sheet, text.as_str())?;
     }
+    // By hand, since an `Option` can have no `Display` of ours.
     match largest(&mut sheet) {
         Some(Spot { top, left }) => println!(rt; "largest: placed {top} {left}")?,
         None => println!(rt; "largest: refused")?,

@@ -13,7 +13,8 @@ pub struct Job<'a> {
     pub(crate) done: usize,
     // the byte place of the next part
     pub(crate) place: usize,
-    // sealed or abandoned
+    // Sealed or abandoned. A flag, as the customer asked: a seal lends the job and cannot take it, since where it is refused the job
+    // goes on.
     pub(crate) spent: bool,
     ghost few: { done ≤ length (content sheet.now).rows + 1 },
     ghost placed: { place ≡ place_of (content sheet.now) done },

@@ -2,21 +2,18 @@
 ghost use Rattle.std.specs.Prelude.{◌≡◌, [], ◌∷◌, ◌++◌, Ok, OnErr};
 ghost use Rattle.sheet.specs.Blocked.{blocked, SearchFinds, SmallSpot};
 ghost use Rattle.sheet.specs.Contents.{content};
-ghost use Rattle.sheet.specs.Rules.{new_sheet, with_rows, verdict, shape_checks, room_checks, open_answer, open_next, lay_answer, lay_next, lift_answer, lift_next, place_answer, place_next, drafted, found};
+ghost use Rattle.sheet.specs.Rules.{new_sheet, with_rows, verdict, shape_checks, room_checks, open_answer, open_next, lay_answer, lay_next, lift_answer, lift_next, place_answer, place_next, found};
 
 use super::Sheet;
 use crate::checks::{has_bad_bands, has_empty_picture, has_empty_side, leaves_projected};
 use crate::claims::{claim, claim_inside, meets_some};
 use crate::gap::close_gap;
 use crate::row::{Draft, PackedSides, Row, SheetSides};
-use crate::spots::{MOST, NO_BOX, block};
 use crate::table::Table;
-use geometry::{Body, Bounds, ProjectedRectangle, Sides, Spot, first_free};
+use geometry::{Body, Bounds, ProjectedRectangle, Sides, Spot, Turn, first_free};
 use refusal::Refusal;
 
 const CAPACITY: usize = 255;
-
-const LAST_CODE: u8 = 7;
 
 // What stands in the table where there is no row.
 const NO_ROW: Row = Row {
@@ -80,9 +77,7 @@ impl Sheet {
         if self.len() >= CAPACITY {
             return Err(Refusal::SheetFull);
         }
-        if row.turn > LAST_CODE {
-            return Err(Refusal::TurnCode);
-        }
+        Turn::try_from(row.turn)?;
         if has_empty_side(row) {
             return Err(Refusal::EmptySide);
         }
@@ -143,11 +138,9 @@ impl Sheet {
         ensures small { SmallSpot result }
     {
         let packed = self.table.sides.packed;
-        let mut boxes = [NO_BOX; MOST];
-        let n = block(&mut boxes, packed, self.rows(), draft);
-        let taken = &boxes[0..n];
-        self.search_finds(draft, taken);
-        first_free(taken, packed.height as u32, packed.width as u32)
+        let taken = draft.blocked(packed, self.rows());
+        self.search_finds(draft, &taken);
+        first_free(&taken, packed.height as u32, packed.width as u32)
     }
 
     // Lays the row at the highest free spot and the leftmost of those, and answers the body's top and left.
@@ -156,14 +149,10 @@ impl Sheet {
         ensures after { content self.new ≡ place_next (content self.old) draft }
         ensures refused { OnErr result (self.new ≡ self.old) }
     {
-        self.judge_shape(&at_spot(&draft, 0, 0))?;
-        match self.find_spot(&draft) {
-            None => Err(Refusal::NoFreeSpot),
-            Some(spot) => {
-                self.append(at_spot(&draft, spot.top as u16, spot.left as u16));
-                Ok(spot)
-            }
-        }
+        self.judge_shape(&draft.at(0, 0))?;
+        let spot = self.find_spot(&draft).ok_or(Refusal::NoFreeSpot)?;
+        self.append(draft.at(spot.top as u16, spot.left as u16));
+        Ok(spot)
     }
 
     // Takes out the row with this number; later rows move down by one.
@@ -173,29 +162,12 @@ impl Sheet {
         ensures refused { OnErr result (self.new ≡ self.old) }
     {
         let n = self.table.len;
-        let i = number as usize;
+        let i = usize::from(number);
         if i >= n {
             return Err(Refusal::NoSuchRow);
         }
         close_gap(&mut self.table.rows, i, n);
         self.table.len = n - 1;
         Ok(())
-    }
-}
-
-// The draft with its body at a spot.
-fn at_spot(draft: &Draft, top: u16, left: u16) -> Row
-    ensures { result ≡ drafted draft.now top left }
-{
-    Row {
-        projected: draft.projected,
-        turn: draft.turn,
-        body: Body {
-            width: draft.width,
-            height: draft.height,
-            top,
-            left,
-        },
-        bands: draft.bands,
     }
 }

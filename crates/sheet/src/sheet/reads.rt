@@ -1,13 +1,13 @@
 // What a sheet answers without changing.
 ghost use Rattle.std.specs.Prelude.{◌≡◌, length};
 ghost use Rattle.sheet.specs.Contents.{content};
-ghost use Rattle.sheet.specs.Serving.{position_answer, serve_answer};
+ghost use Rattle.sheet.specs.Serving.{position_answer, serving, serve_answer};
 ghost use Rattle.sheet.specs.Words.{Facts};
 
 use super::Sheet;
 use crate::row::{Row, SheetSides};
-use crate::served::{Served, locate, serve_from};
-use geometry::{PackedPlace, Position, ProjectedPlace};
+use crate::served::{Served, first_covering};
+use geometry::{PackedPlace, Place, Position, ProjectedPlace, Turn};
 use refusal::Refusal;
 
 impl Sheet {
@@ -29,7 +29,7 @@ impl Sheet {
     pub fn rows(&self) -> &[Row]
         ensures { result.now ≡ (content self.now).rows }
     {
-        &self.table.rows[0..self.table.len]
+        &self.table.rows[..self.table.len]
     }
 
     // Does nothing. Whoever calls it knows afterwards what holds of every sheet: its rows are well shaped, no packed
@@ -44,17 +44,36 @@ impl Sheet {
         ensures { result ≡ position_answer (content self.now) number place }
     {
         self.facts();
-        locate(self.sides(), self.rows(), number as usize, place)
+        let row = self
+            .rows()
+            .get(usize::from(number))
+            .ok_or(Refusal::NoSuchRow)?;
+        // The turn of a sheet's row is one that there is, so this is not refused.
+        let turn = Turn::try_from(row.turn)?;
+        Position::of(&row.projected, turn, row.body, place)
+    }
+
+    // The first of the rows that covers a place, and the place in its body.
+    fn first_serving(&self, place: Place) -> Result<Served, Refusal>
+        ensures { result ≡ serving 0 (content self.now).rows place }
+    {
+        self.facts();
+        let rows = self.rows();
+        let number = first_covering(rows, place).ok_or(Refusal::NotCovered)?;
+        let body_place = rows[number].place_in_body(place)?;
+        Ok(Served {
+            row: number as u8,
+            place: PackedPlace(body_place),
+        })
     }
 
     // The lowest-numbered row that covers a projected place, and the place in its body. Refused with 19, then 20.
     pub fn serve(&self, place: ProjectedPlace) -> Result<Served, Refusal>
         ensures { result ≡ serve_answer (content self.now) place }
     {
-        self.facts();
         if !self.sides().projected.contain(place.0) {
             return Err(Refusal::PlaceOutside);
         }
-        serve_from(self.sides(), self.rows(), place.0)
+        self.first_serving(place.0)
     }
 }

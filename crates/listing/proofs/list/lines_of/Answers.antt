@@ -1,7 +1,6 @@
 use Rattle.std.proofs.Common.{◌^◌, ◌<◌, arith}
 use Rattle.sheet.specs.Contents.{content}
 use Rattle.rwpk.specs.Laws.{Bytes}
-use Rattle.listing.specs.Texts.{text_of}
 use Rattle.listing.proofs.Loaded.{granted_room, granted_lines, refused_room, refused_lines}
 use Rattle.listing.proofs.list.lines_of.Goals as goal
 
@@ -11,21 +10,21 @@ push_sheet-requires c =
     let told = c.in-Ok.ensures in
     granted_room c.args.input.now (content c.load.new.sheet) _ _ told.answer told.after
     c.sides.result c.rows.result.now c.sides.ensures c.rows.ensures
-    (text_of c.new-text.result) c.new-text.ensures small
+    c.new-text.result.bytes c.new-text.ensures small
 
 pub push_refused-requires : goal.push_refused-requires
 push_refused-requires c =
     let lt : c.in-Err.fault.place < 2 ^ 64 = omega arith in
-    refused_room c.in-Err.fault (text_of c.new-text.result) c.new-text.ensures lt
+    refused_room c.in-Err.fault c.new-text.result.bytes c.new-text.ensures lt
 
 pub returns-in-Ok : goal.returns-in-Ok
 returns-in-Ok c =
     let told = c.in-Ok.ensures in
     granted_lines c.args.input.now (content c.load.new.sheet) _ _ told.answer told.after
     c.sides.result c.rows.result.now c.sides.ensures c.rows.ensures
-    (text_of c.new-text.result) c.new-text.ensures _ c.push_sheet.ensures
+    c.new-text.result.bytes c.new-text.ensures _ c.push_sheet.ensures
 
 pub returns-in-Err : goal.returns-in-Err
 returns-in-Err c =
     refused_lines c.args.input.now c.in-Err.fault c.in-Err.ensures.answer
-    (text_of c.new-text.result) _ c.new-text.ensures c.push_refused.ensures
+    c.new-text.result.bytes _ c.new-text.ensures c.push_refused.ensures

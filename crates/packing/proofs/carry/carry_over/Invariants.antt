@@ -1,4 +1,4 @@
-use Rattle.std.proofs.Common.{◌≡◌, ◌-◌, ◌≤◌, length}
+use Rattle.std.proofs.Common.{◌≡◌, ◌≤◌}
 use Rattle.picture.specs.Draws.{drawn}
 use Rattle.packing.specs.Strips.{strip}
 use Rattle.packing.proofs.carry.carry_over.Given as goal
@@ -9,7 +9,3 @@ invariant-loop-start g l =
     (g.Q.Store.shown l.initial.to))
     × g.Q.Store.kept l.initial.to l.to
     × (l.start ≤ l.carry.across.parts)
-    × (length l.table ≡ 8192)
-
-abbrev pub decreases-loop-start : goal.decreases-loop-start
-decreases-loop-start g l = l.carry.across.parts - l.start

@@ -19,7 +19,7 @@ track-track-requires g c =
     let start = track_inside c.args.carry p.sides q.sides c.requires.fits c.loop-j.j line in
     let w : p.sides.width < 2 ^ 32 = sound.across in
     let h : p.sides.height < 2 ^ 32 = sound.down in
-    record { able = c.requires.fits.down; line = line; across = omega (arith, start.0); down = omega (arith, start.1) }
+    record { line = line; across = omega (arith, start.0); down = omega (arith, start.1) }
 
 pub put_line-requires : goal.put_line-requires
 put_line-requires g c =

@@ -1,4 +1,5 @@
-use Rattle.std.proofs.Common.{◌≡◌, List, length, sym, ap, ◌∙◌, subst, ap₂, arith}
+use Rattle.std.proofs.Common.{◌≡◌, ℕ, List, length, sym, ap, ◌∙◌, subst, ap₂, arith}
+use Rattle.geometry.specs.declared.place.Sides.{Sides}
 use Rattle.picture.specs.Picture.{Picture}
 use Rattle.picture.specs.declared.mark.Mark.{Mark}
 use Rattle.sheet.specs.declared.row.Row.{Row}
@@ -17,11 +18,12 @@ pub returns : goal.returns
 returns g c =
     let sheet = content c.args.sheet.now in
     let p = g.S.Store.shown c.args.map.now in
+    let packed = c.from-width.ensures ∙ ap (λ (s : SheetSides). s.packed) c.sides.ensures in
     let map : g.S.Store.shown c.mark_rows.new.map ≡ claim_map sheet =
     c.mark_rows.ensures.after
     ∙ ap₂ (λ (l : List Row) (a : Picture Mark). marked 0 l a) c.rows.ensures
     (c.fill.ensures.after
-    ∙ ap (λ (s : SheetSides). filled p (box 0 s.packed.height 0 s.packed.width) Nobody) c.sides.ensures)
+    ∙ ap (λ (s : Sides ℕ). filled p (box 0 s.height 0 s.width) Nobody) packed)
     ∙ map_is sheet p (g.S.Store.sound c.args.map.now) c.requires in
     record {
       after = map;

@@ -13,7 +13,7 @@ returns g c =
       after =
           c.fill.ensures.after
           ∙ ap₂ (λ a (b : Bounds). filled a b (Body n))
-          (c.fill_all.ensures.after ∙ ap (λ (l : List Bounds). filled_all p l (Band n)) c.claim.ensures.value) c.body_box.ensures
+          (c.fill_all.ensures.after ∙ ap (λ (l : List Bounds). filled_all p l (Band n)) c.claim.ensures.value) c.from.ensures
           ∙ row_marked p n c.args.row.now;
       rest = g.S.Store.keeps.chain _ _ _ c.fill_all.ensures.rest c.fill.ensures.rest;
     }

@@ -1,55 +1,32 @@
-use Rattle.std.proofs.Common.{◌-◌, ◌<◌, length, get_or, sym, ap, ◌∙◌, subst, arith}
-use Rattle.std.proofs.ByRecursion.{All-get_or}
-use Rattle.geometry.specs.declared.place.Place.{Place}
-use Rattle.geometry.specs.declared.place.Sides.{Sides}
-use Rattle.picture.specs.Picture.{Picture}
-use Rattle.packing.specs.declared.carry.Carry.{Carry}
-use Rattle.packing.specs.Carries.{Able, CarryFits, carried}
-use Rattle.packing.specs.RowCarries.{has_of, origin_of, Lies}
-use Rattle.packing.proofs.Carrying.{no_row, drawn_none, drawn_front, row_carried}
-use Rattle.packing.proofs.Lying.{lies_shaped, row_fits}
+use Rattle.std.proofs.Common.{List, sym, ap, ◌∙◌, subst}
+use Rattle.std.specs.List.{AllByRecursion}
+use Rattle.std.proofs.lemmas.List.{nil_from_length}
+use Rattle.picture.specs.Draws.{drawn}
+use Rattle.sheet.specs.declared.row.Row.{Row}
+use Rattle.packing.specs.Carries.{carried}
+use Rattle.packing.specs.Moves.{pulled}
+use Rattle.packing.proofs.Carrying.{all_last, drawn_none, drawn_last}
 use Rattle.packing.proofs.moving.move_rows.Goals as goal
 
-pub loop-n-init : goal.loop-n-init
-loop-n-init g c =
-    let rows = c.args.rows.now in
-    let way = c.args.way in (
-      drawn_none (has_of way) (origin_of way) (g.P.Store.shown c.args.from.now) (g.Q.Store.shown c.args.to.now) rows (length rows) (omega arith),
-      g.Q.Store.keeps.same c.args.to.now,
+pub loop-row-preserved : goal.loop-row-preserved
+loop-row-preserved g c =
+    let has = g.W.Way.has in
+    let origin = g.W.Way.origin in
+    let p = g.P.Store.shown c.args.from.now in
+    let q = g.Q.Store.shown c.loop-row.to in
+    let steps = c.in-Some.ensures.steps in (
+      drawn_last has origin p q _ _ _ (carried c.carry.result) c.carry.ensures.carries c.carry_over.ensures.after
+          ∙ ap (λ (rows : List Row). drawn (pulled has origin rows) p q) (sym steps)
+          ∙ c.loop-row.invariant.0,
+      g.Q.Store.keeps.chain _ _ _ c.loop-row.invariant.1 c.carry_over.ensures.rest,
+      (all_last _ _ _ (subst (AllByRecursion _) steps c.loop-row.invariant.2)).0,
     )
 
-pub row_carry-requires : goal.row_carry-requires
-row_carry-requires g c =
+pub returns-clause-after : goal.returns-clause-after
+returns-clause-after g c =
+    let has = g.W.Way.has in
+    let origin = g.W.Way.origin in
     let p = g.P.Store.shown c.args.from.now in
-    let q = g.Q.Store.shown c.args.to.now in
-    let h : c.loop-n.n - 1 < length c.args.rows.now = omega arith in
-    let lies = All-get_or (Lies c.args.way p.sides q.sides) c.args.rows.now (c.loop-n.n - 1) no_row h c.requires in
-    let shaped = lies_shaped c.args.way p.sides q.sides _ lies in
-    record { turn = shaped.0; sided = shaped.1 }
-
-pub carry_over-requires : goal.carry_over-requires
-carry_over-requires g c =
-    let p = g.P.Store.shown c.args.from.now in
-    let q = g.Q.Store.shown c.args.to.now in
-    let row = get_or c.args.rows.now (c.loop-n.n - 1) no_row in
-    let h : c.loop-n.n - 1 < length c.args.rows.now = omega arith in
-    let lies = All-get_or (Lies c.args.way p.sides q.sides) c.args.rows.now (c.loop-n.n - 1) no_row h c.requires in
-    let is = c.row_carry.ensures.value in
-    let same = ap (λ (a : Picture _). a.sides) c.loop-n.invariant.0 in
-    subst (λ (s : Sides). CarryFits c.row_carry.result p.sides s) (sym same)
-    (subst (λ (k : Carry). CarryFits k p.sides q.sides) (sym is)
-    (row_fits c.args.way p.sides q.sides row lies (subst (λ (k : Carry). Able k.across) is c.row_carry.ensures.across)
-    (subst (λ (k : Carry). Able k.down) is c.row_carry.ensures.down)))
-
-pub loop-n-preserved : goal.loop-n-preserved
-loop-n-preserved g c =
-    let rows = c.args.rows.now in
-    let way = c.args.way in
-    let row = get_or rows (c.loop-n.n - 1) no_row in
-    let is = c.row_carry.ensures.value in (
-      drawn_front (has_of way) (origin_of way) (g.P.Store.shown c.args.from.now) (g.Q.Store.shown c.args.to.now) rows c.loop-n.n _
-          c.row_carry.result _ _ c.loop-n-test.true c.loop-n.auto.n
-          (λ (p : Place). ap (λ (k : Carry). carried k p) is ∙ row_carried way row p)
-          c.carry_over.ensures.after c.loop-n.invariant.0,
-      g.Q.Store.keeps.chain _ _ _ c.loop-n.invariant.1 c.carry_over.ensures.rest,
-    )
+    let q = g.Q.Store.shown c.loop-row.to in
+    let none = nil_from_length _ c.in-None.ensures.steps.0 in
+    sym (drawn_none has origin p q) ∙ ap (λ (rows : List Row). drawn (pulled has origin rows) p q) (sym none) ∙ c.loop-row.invariant.0

@@ -4,17 +4,9 @@ use Rattle.geometry.proofs.Insides.{inside_from}
 use Rattle.picture.specs.Picture.{Sound, painted}
 use Rattle.picture.specs.Copies.{row_to}
 use Rattle.picture.proofs.Drawing.{drawn_more}
-use Rattle.picture.proofs.Pictures.{read_granted, some_of}
+use Rattle.picture.proofs.Pictures.{some_of}
 use Rattle.picture.proofs.RowByRow.{row_more, sides_same}
 use Rattle.picture.proofs.copying.copy_row.Goals as goal
-
-pub returns-in_err-sample : goal.returns-in_err-sample
-returns-in_err-sample g c =
-    let p = g.P.Store.shown c.args.from.now in
-    let x : c.loop-x.x < p.sides.width = omega arith in
-    let here : inside p.sides (at c.loop-x.x c.args.y) ≡ true = inside_from _ _ x c.requires.inside in
-    absurd
-    (read_granted p (at c.loop-x.x c.args.y) _ _ (g.P.Store.sound c.args.from.now) here c.in_err-sample.ensures)
 
 pub loop-x-preserved : goal.loop-x-preserved
 loop-x-preserved g c =

@@ -1,5 +1,6 @@
 use Rattle.picture.specs.Runs.{row_layout, tile_layout}
-use Rattle.picture.proofs.Layouts.{run_fixed, rows_reversible, tiles_reversible}
+use Rattle.picture.specs.LayoutLaws.{rows_reversible, tiles_reversible}
+use Rattle.picture.proofs.Layouts.{run_fixed}
 use Rattle.picture.proofs.laws.run_laws.Goals as goal
 
 pub returns : goal.returns

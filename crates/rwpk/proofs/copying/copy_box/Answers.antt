@@ -10,17 +10,17 @@ use Rattle.rwpk.proofs.copying.copy_box.Goals as goal
 pub write_box-requires : goal.write_box-requires
 write_box-requires c =
     let small : Bytes c.args.input.now = λ i. omega (arith, c.type_inv.input i) in
-    let same = same_box c.args.input.now small (content c.in-Ok.sheet) c.in-Ok.ensures in
+    let same = same_box c.args.input.now small (content c.in_ok-sheet.sheet) c.in_ok-sheet.ensures in
     omega (arith, ap length same, c.if-out-input.false)
 
-pub returns-in-Ok-write_box : goal.returns-in-Ok-write_box
-returns-in-Ok-write_box c =
-    let m : Content = content c.in-Ok.sheet in
+pub returns : goal.returns
+returns c =
+    let m : Content = content c.in_ok-sheet.sheet in
     let small : Bytes c.args.input.now = λ i. omega (arith, c.type_inv.input i) in
-    let read = c.in-Ok.ensures in
-    let told = c.in-Ok-write_box.ensures in
-    let size : c.in-Ok-write_box.size ≡ length (box_of m) = let e = told.answer in cc in
+    let read = c.in_ok-sheet.ensures in
+    let told = c.in_ok-write_box.ensures in
+    let size : c.in_ok-write_box.field-0 ≡ length (box_of m) = let e = told.answer in cc in
     record {
-      answer = copies c.args.input.now small m read c.args.out.now c.in-Ok-write_box.size c.if-out-input.false size;
+      answer = copies c.args.input.now small m read c.args.out.now c.in_ok-write_box.field-0 c.if-out-input.false size;
       out = told.out ∙ ap (put_at c.args.out.now 0) (same_box c.args.input.now small m read);
     }

@@ -1,4 +1,4 @@
-use Rattle.std.proofs.Common.{ℕ, List, Ok, ap, arith}
+use Rattle.std.proofs.Common.{ℕ, List, Ok, refl, ap, arith}
 use Rattle.sheet.specs.Contents.{content}
 use Rattle.sheet.specs.Rules.{Content}
 use Rattle.rwpk.proofs.Copied.{never, one_more, sealed}
@@ -24,5 +24,5 @@ returns c =
     let m : Content = content c.args.sheet.now in
     let out : List ℕ = c.args.out.now in
     let (end, whole) = sealed m out c.loop-part.out _ _ c.loop-part.part c.loop-part.place (omega (arith, c.len-part-end.ensures))
-    c.loop-part.invariant.0 c.loop-part.invariant.1 c.be32.ensures c.put.ensures in
+    c.loop-part.invariant.0 c.loop-part.invariant.1 refl c.put.ensures in
     record { answer = ap Ok end; out = whole }

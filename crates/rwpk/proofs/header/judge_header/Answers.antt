@@ -4,6 +4,11 @@ use Rattle.std.proofs.lemmas.Bool.Decides.{nat_tests}
 use Rattle.rwpk.proofs.Reading.{after4, first, second, third, after4_long}
 use Rattle.rwpk.proofs.header.judge_header.Goals as goal
 
+pub returns-then-size-input : goal.returns-then-size-input
+returns-then-size-input c =
+    let size = first c.args.input.now _ (omega (arith, ltb-false)) c.from_be_bytes-size.ensures in
+    simp size (grind (arith, nat_tests))
+
 pub returns-then-kind-ne-RWPK : goal.returns-then-kind-ne-RWPK
 returns-then-kind-ne-RWPK c =
     let input : List ℕ = c.args.input.now in

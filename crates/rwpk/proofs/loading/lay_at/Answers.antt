@@ -1,27 +1,11 @@
-use Rattle.std.proofs.Common.{Ok, Err, ap, ◌∙◌}
+use Rattle.std.proofs.Common.{ap, ◌∙◌, rules}
 use Rattle.sheet.specs.Contents.{content}
-use Rattle.sheet.specs.Rules.{Content}
-use Rattle.rwpk.proofs.Laying.{placed, lay_judged, lay_leaves}
+use Rattle.rwpk.proofs.Laying.{placed, handed_on, lay_judged}
 use Rattle.rwpk.proofs.loading.lay_at.Goals as goal
 
-pub returns-in-Ok : goal.returns-in-Ok
-returns-in-Ok c =
-    let m : Content = content c.args.sheet.now in
-    let row = c.args.row in
+pub returns-clause-answer : goal.returns-clause-answer
+returns-clause-answer c =
     let p = c.args.place in
-    let told = c.in-Ok.ensures in
-    record {
-      answer = ap (λ v. placed v p) told.answer ∙ lay_judged m row p c.requires.few c.requires.faultless;
-      after = told.after ∙ lay_leaves m row (Ok c.in-Ok.field-0) p told.answer;
-    }
-
-pub returns-in-Err : goal.returns-in-Err
-returns-in-Err c =
-    let m : Content = content c.args.sheet.now in
-    let row = c.args.row in
-    let p = c.args.place in
-    let told = c.in-Err.ensures in
-    record {
-      answer = ap Err c.at.ensures ∙ ap (λ v. placed v p) told.answer ∙ lay_judged m row p c.requires.few c.requires.faultless;
-      after = told.after ∙ lay_leaves m row (Err c.in-Err.refusal) p told.answer;
-    }
+    handed_on c.lay.result c.map_err.result p c.map_err.ensures.cases (λ why fault h. search rules)
+    ∙ ap (λ v. placed v p) c.lay.ensures.answer
+    ∙ lay_judged (content c.args.sheet.now) c.args.row p c.requires.few c.requires.faultless

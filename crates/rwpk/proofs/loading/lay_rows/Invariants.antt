@@ -1,4 +1,4 @@
-use Rattle.std.proofs.Common.{◌≡◌, ◌+◌, ◌-◌, ◌*◌, ◌≤◌, [], length}
+use Rattle.std.proofs.Common.{◌≡◌, ◌-◌, [], length}
 use Rattle.sheet.specs.Contents.{content}
 use Rattle.rwpk.specs.Boxes.{rows_from}
 use Rattle.rwpk.proofs.loading.lay_rows.Given as goal
@@ -10,4 +10,3 @@ invariant-loop l =
     ≡ rows_from (content l.initial.sheet).sides l.count [] l.input 26)
     × ((content l.sheet).sides ≡ (content l.initial.sheet).sides)
     × (length (content l.sheet).rows ≡ l.counter)
-    × (l.place ≤ 26 + 32 * l.counter)

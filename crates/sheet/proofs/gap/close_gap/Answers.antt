@@ -1,23 +1,26 @@
-use Rattle.std.proofs.Common.{◌≡◌, ◌+◌, ◌-◌, ◌<◌, length, take, refl, ap, ◌∙◌, arith}
+use Rattle.std.proofs.Common.{◌≡◌, suc, ◌+◌, ◌-◌, ◌≤◌, ◌++◌, length, take, drop, sym, ap, ◌∙◌, ap₂, arith, length-drop}
 use Rattle.std.specs.List.{remove}
+use Rattle.std.proofs.lemmas.List.{take-take, drop-take}
+use Rattle.std.proofs.lemmas.List.Edits.{take-paste}
 use Rattle.sheet.specs.Sound.{sound_rows}
 use Rattle.sheet.proofs.Rows.{sound_removed}
-use Rattle.sheet.proofs.Moved.{gap_none, gap_more, gap_rest, gap_all}
 use Rattle.sheet.proofs.gap.close_gap.Goals as goal
-
-pub loop-k-init : goal.loop-k-init
-loop-k-init c = (gap_none c.args.rows.now c.args.i (omega arith), refl)
-
-pub loop-k-preserved : goal.loop-k-preserved
-loop-k-preserved c =
-    let inside : c.loop-k.k + 1 < length c.args.rows.now = omega arith in (
-      gap_more _ _ _ _ c.loop-k.auto.k inside c.loop-k.auto.rows c.loop-k.invariant.1 _ c.loop-k.invariant.0,
-      gap_rest _ _ c.args.i _ c.loop-k.auto.k inside c.loop-k.auto.rows c.loop-k.invariant.1 _,
-    )
 
 pub returns : goal.returns
 returns c =
+    let old = c.args.rows.now in
+    let i = c.args.i in
     let n = c.args.n in
-    let rows : take (n - 1) c.loop-k.rows ≡ remove (take n c.args.rows.now) c.args.i =
-    gap_all _ _ _ c.loop-k.k _ (omega arith) c.loop-k.invariant.0 in
-    record { rows = rows; sound = λ s h. ap (sound_rows s) rows ∙ sound_removed s (take n c.args.rows.now) c.args.i h }
+    -- how many rows move down
+    let k = n - (i + 1) in
+    let long : k ≤ length (drop (i + 1) old) = omega (arith, length-drop (i + 1) old) in
+    let kept : n - 1 ≡ i + k = omega arith in
+    let next : i + 1 ≡ suc i = omega arith in
+    let all : suc i + k ≡ n = omega arith in
+    let rows : take (n - 1) c.copy_within.new.self ≡ remove (take n old) i =
+    ap₂ take kept c.copy_within.ensures.after
+    ∙ take-paste old i (drop (i + 1) old) k (omega arith) long
+    ∙ ap₂ ◌++◌
+    (sym (take-take i n old (omega arith)))
+    (ap (λ m. take k (drop m old)) next ∙ sym (drop-take (suc i) k old) ∙ ap (λ m. drop (suc i) (take m old)) all) in
+    record { rows = rows; sound = λ s h. ap (sound_rows s) rows ∙ sound_removed s (take n old) i h }

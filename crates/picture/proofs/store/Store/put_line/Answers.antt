@@ -1,13 +1,8 @@
 use Rattle.std.proofs.Common.{◌+◌, ◌<◌, ap, ◌∙◌, subst, arith}
 use Rattle.geometry.specs.Places.{at}
 use Rattle.picture.specs.Picture.{Sound, painted}
-use Rattle.picture.proofs.Stretches.{lined_none, lined_more}
+use Rattle.picture.proofs.Stretches.{lined_more}
 use Rattle.picture.proofs.store.Store.put_line.Goals as goal
-
-pub loop-i-init : goal.loop-i-init
-loop-i-init g c =
-    let p = g.Self.Store.shown c.args.self.now in
-    (lined_none p c.args.place (g.L.Line.held c.args.line.now), g.Self.Store.keeps.same c.args.self.now)
 
 pub loop-i-preserved : goal.loop-i-preserved
 loop-i-preserved g c =

@@ -1,5 +1,0 @@
-use Rattle.geometry.proofs.Jumping.{Nearest}
-use Rattle.geometry.proofs.search.next_top.Given as goal
-
-abbrev pub invariant-loop-b : goal.invariant-loop-b
-invariant-loop-b l = Nearest l.boxes l.tops l.top l.b-index l.end
