@@ -13,14 +13,16 @@ fn value(digit: u8) -> anyhow::Result<u8>
     }
 }
 
-// Two digits to a byte.
+// Two digits to a byte. Each digit is judged before it is asked whether their number is odd.
 pub(crate) fn bytes_of(rt: &HostRuntime, digits: &str) -> anyhow::Result<Vec<u8>> {
     let mut bytes = Vec::new(rt.alloc());
     for pair in digits.as_bytes().chunks(2) {
-        let [high, low] = pair else {
+        let [high, rest @ ..] = pair else { break };
+        let high = value(*high)?;
+        let [low] = rest else {
             return Err(anyhow!("an odd number of digits"));
         };
-        bytes.push(value(*high)? * 16 + value(*low)?)?;
+        bytes.push(high * 16 + value(*low)?)?;
     }
     Ok(bytes)
 }

@@ -22,7 +22,10 @@ const LONGEST_BOX: usize = 8186;
 fn show(rt: &HostRuntime, input: &[u8]) -> anyhow::Result<()> {
     // A buffer to lend: the listing goes to its start, and the call answers how long it is.
     let mut lines = [0u8; LONGEST];
-    let length = list_box(input, &mut lines).context("a listing is too long")?;
+    // The refusal is left out of the message, here and below.
+    let length = list_box(input, &mut lines)
+        .ok()
+        .context("a listing is too long")?;
     rt.write_all(&lines[0..length])?;
     let mut sheet = Sheet::new();
     // No `?`, since a refused box is a case like others: its listing has said why.
@@ -66,7 +69,7 @@ fn show_flips(rt: &HostRuntime, input: &mut [u8]) -> anyhow::Result<()> {
 // The jobs of a box that is granted.
 fn show_all_jobs(rt: &HostRuntime, input: &[u8]) -> anyhow::Result<()> {
     let mut sheet = Sheet::new();
-    load(&mut sheet, input).context("a box is refused")?;
+    load(&mut sheet, input).ok().context("a box is refused")?;
     let mut out = [0u8; LONGEST_BOX];
     show_jobs(rt, &sheet, input, &mut out)
 }

@@ -6,12 +6,12 @@ mod stores;
 use anyhow::{Context, bail};
 use geometry::{Place, Sides};
 use packing::{map_claims, pack, unpack};
-use picture::{Mark, Rows, Store, Tiles};
+use picture::{Mark, Rows, Store};
 use refusal::Refusal;
 use rwpk::load;
 use sheet::Sheet;
 use std::str::SplitWhitespace;
-use stores::pile_of;
+use stores::{pile_of, rows_of, tiles_of};
 
 // No run of a case is longer than this.
 const LONGEST: usize = 4096;
@@ -78,15 +78,10 @@ fn with_packed<P: Store<Sample = u16>>(
     let mut run = [0u16; LONGEST];
     let sides = Sides::from(sheet.sides().packed);
     match make {
-        "rows" => move_both_ways(rt, sheet, projected, &mut Rows::of_sides(&mut run, sides)?),
-        "tiles" => move_both_ways(rt, sheet, projected, &mut Tiles::of_sides(&mut run, sides)?),
-        "pile" => move_both_ways(rt, sheet, projected, &mut pile_of(&mut run, sides)?),
-        "unfit" => move_both_ways(
-            rt,
-            sheet,
-            projected,
-            &mut Rows::of_sides(&mut run, higher(sides))?,
-        ),
+        "rows" => move_both_ways(rt, sheet, projected, &mut rows_of(&mut run, sides)),
+        "tiles" => move_both_ways(rt, sheet, projected, &mut tiles_of(&mut run, sides)),
+        "pile" => move_both_ways(rt, sheet, projected, &mut pile_of(&mut run, sides)),
+        "unfit" => move_both_ways(rt, sheet, projected, &mut rows_of(&mut run, higher(sides))),
         _ => bail!("no such make"),
     }
 }
@@ -109,19 +104,9 @@ fn with_both(
     let mut run = [0u16; LONGEST];
     let sides = sheet.sides().projected;
     match projected_make {
-        "rows" => with_packed(
-            rt,
-            sheet,
-            &mut Rows::of_sides(&mut run, sides)?,
-            packed_make,
-        ),
-        "tiles" => with_packed(
-            rt,
-            sheet,
-            &mut Tiles::of_sides(&mut run, sides)?,
-            packed_make,
-        ),
-        "pile" => with_packed(rt, sheet, &mut pile_of(&mut run, sides)?, packed_make),
+        "rows" => with_packed(rt, sheet, &mut rows_of(&mut run, sides), packed_make),
+        "tiles" => with_packed(rt, sheet, &mut tiles_of(&mut run, sides), packed_make),
+        "pile" => with_packed(rt, sheet, &mut pile_of(&mut run, sides), packed_make),
         _ => bail!("no such make"),
     }
 }
@@ -156,7 +141,7 @@ fn print_map(rt: &HostRuntime, sheet: &Sheet, make: &str) -> anyhow::Result<()> 
 fn bytes_left(rt: &HostRuntime, words: SplitWhitespace) -> anyhow::Result<Vec<u8>> {
     let mut bytes = Vec::new(rt.alloc());
     for word in words {
-        bytes.push(word.parse().context("not a byte")?)?;
+        bytes.push(word.parse().ok().context("not a byte")?)?;
     }
     Ok(bytes)
 }
@@ -167,7 +152,9 @@ fn run_line(rt: &HostRuntime, line: &str) -> anyhow::Result<()> {
         bail!("a line is two makes and the bytes of a box");
     };
     let mut sheet = Sheet::new();
-    load(&mut sheet, &bytes_left(rt, words)?)?;
+    load(&mut sheet, &bytes_left(rt, words)?)
+        .ok()
+        .context("a box is refused")?;
     with_both(rt, &sheet, projected_make, packed_make)?;
     print_map(rt, &sheet, packed_make)
 }

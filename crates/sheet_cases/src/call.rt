@@ -72,11 +72,20 @@ impl Numbers<'_> {
         })
     }
 
+    // Refused in these words unless so many are left.
+    fn count(&self, count: usize, words: &str) -> anyhow::Result<()> {
+        if self.rest.len() != count {
+            return Err(anyhow!("{words}"));
+        }
+        Ok(())
+    }
+
     // Nine numbers, or none.
     fn bands(&mut self) -> anyhow::Result<Option<GuardBands>> {
         if self.rest.is_empty() {
             return Ok(None);
         }
+        self.count(9, "bands are nine numbers")?;
         Ok(Some(GuardBands {
             sizes: self.four_sides()?,
             prediction: self.next::<u32>()? == 1,
@@ -85,6 +94,7 @@ impl Numbers<'_> {
     }
 
     fn sheet_sides(&mut self) -> anyhow::Result<SheetSides> {
+        self.count(4, "open has four numbers")?;
         Ok(SheetSides {
             projected: self.sides()?,
             packed: self.sides()?,
@@ -92,6 +102,9 @@ impl Numbers<'_> {
     }
 
     fn row(&mut self) -> anyhow::Result<Row> {
+        if self.rest.len() < 9 {
+            return Err(anyhow!("a row has nine numbers before its bands"));
+        }
         Ok(Row {
             projected: self.rectangle()?,
             turn: self.next()?,
@@ -101,6 +114,9 @@ impl Numbers<'_> {
     }
 
     fn draft(&mut self) -> anyhow::Result<Draft> {
+        if self.rest.len() < 7 {
+            return Err(anyhow!("a draft has seven numbers before its bands"));
+        }
         Ok(Draft {
             projected: self.rectangle()?,
             turn: self.next()?,
@@ -110,21 +126,33 @@ impl Numbers<'_> {
         })
     }
 
-    // The call of this name, with all of the numbers. A table of closures would be no plainer than the arms.
+    fn lift(&mut self) -> anyhow::Result<Call> {
+        self.count(1, "lift has one number")?;
+        Ok(Call::Lift(self.next()?))
+    }
+
+    fn position(&mut self) -> anyhow::Result<Call> {
+        self.count(3, "position has three numbers")?;
+        Ok(Call::Position(self.next()?, PackedPlace(self.place()?)))
+    }
+
+    fn serve(&mut self) -> anyhow::Result<Call> {
+        self.count(2, "serve has two numbers")?;
+        Ok(Call::Serve(ProjectedPlace(self.place()?)))
+    }
+
+    // The call of this name, with all of the numbers. How many there are is judged before their sizes, but for those of bands. A table
+    // of closures would be no plainer than the arms.
     fn call(&mut self, name: &str) -> anyhow::Result<Call> {
-        let call = match name {
-            "open" => Call::Open(self.sheet_sides()?),
-            "lay" => Call::Lay(self.row()?),
-            "place" => Call::Place(self.draft()?),
-            "lift" => Call::Lift(self.next()?),
-            "position" => Call::Position(self.next()?, PackedPlace(self.place()?)),
-            "serve" => Call::Serve(ProjectedPlace(self.place()?)),
-            _ => return Err(anyhow!("no such call")),
-        };
-        if !self.rest.is_empty() {
-            return Err(anyhow!("there are numbers left over"));
+        match name {
+            "open" => Ok(Call::Open(self.sheet_sides()?)),
+            "lay" => Ok(Call::Lay(self.row()?)),
+            "place" => Ok(Call::Place(self.draft()?)),
+            "lift" => self.lift(),
+            "position" => self.position(),
+            "serve" => self.serve(),
+            _ => Err(anyhow!("no such call")),
         }
-        Ok(call)
     }
 }
 
