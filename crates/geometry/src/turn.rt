@@ -15,14 +15,15 @@ pub struct Turn {
 }
 
 // Counted from the other end of a side, if `on`. What lies past the end is mirrored to 0.
+#[inline]
 pub fn mirrored_if(on: bool, side: u32, x: u32) -> u32
     ensures { result ≡ mirror on side x }
 {
-    if on {
-        side.saturating_sub(1).saturating_sub(x)
-    } else {
-        x
+    if !on {
+        return x;
     }
+    // A test and no subtraction that stops at 0: where it is known to hold, as in a turn, it costs nothing.
+    if x < side { side - 1 - x } else { 0 }
 }
 
 // The turn of a code from 0 to 7.
@@ -72,6 +73,7 @@ impl From<Turn> for u8 {
 
 impl Turn {
     // The sides of the field that a body with these sides makes.
+    #[inline]
     pub fn field(self, body: Sides) -> Sides
         ensures { result ≡ field self body }
     {
@@ -86,6 +88,7 @@ impl Turn {
     }
 
     // The field's place of a body's place; refused outside the body.
+    #[inline]
     pub fn forwards(self, body: Sides, place: Place) -> Result<Place, Refusal>
         ensures { result ≡ turned self body place }
     {
@@ -102,17 +105,18 @@ impl Turn {
     }
 
     // The body's place of a field's place; refused outside the field.
+    #[inline]
     pub fn backwards(self, body: Sides, place: Place) -> Result<Place, Refusal>
         ensures { result ≡ unturned self body place }
     {
-        if !self.field(body).contain(place) {
-            return Err(Refusal::PlaceOutside);
-        }
         let (x, y) = if self.transposed {
             (place.y, place.x)
         } else {
             (place.x, place.y)
         };
+        if !body.contain(Place { x, y }) {
+            return Err(Refusal::PlaceOutside);
+        }
         Ok(Place {
             x: mirrored_if(self.mirrored, body.width, x),
             y: mirrored_if(self.flipped, body.height, y),

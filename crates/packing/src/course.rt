@@ -1,7 +1,8 @@
 // How the places along one side of a rectangle come from those along a side of another.
-ghost use Rattle.std.specs.Prelude.{◌<◌};
+ghost use Rattle.std.specs.Prelude.{◌≡◌, ◌<◌};
+ghost use Rattle.geometry.specs.Turns.{mirror};
 
-use geometry::{centre, mirrored_if};
+use geometry::centre;
 
 // There are `parts` places along the side that is written, and `side` along the one that is read: at least one of each. The
 // mirrors stand apart, since a middle that lies between two samples falls to another one if it is mirrored first.
@@ -15,6 +16,14 @@ pub(crate) struct Course {
     pub(crate) after: bool,
     ghost some_parts: { 0 < parts },
     ghost some_side: { 0 < side },
+}
+
+// Counted from the other end of a side, if `on`. It stands beside geometry's, which tests `x`, since each step asks for it twice.
+fn mirrored_if(on: bool, side: u32, x: u32) -> u32
+    requires { x < side }
+    ensures { result ≡ mirror on side x }
+{
+    if on { side - 1 - x } else { x }
 }
 
 impl Course {
@@ -51,16 +60,19 @@ impl Course {
     }
 
     // The place along the other side that place i comes from.
+    #[inline]
     pub(crate) fn step(self, i: u32) -> u32
         requires { i < self.parts }
         ensures { result ≡ step self i }
     {
         let cell = mirrored_if(self.before, self.parts, i);
-        let sample = centre(self.side, self.parts, cell).unwrap();
+        // Never refused. A trap, as `unwrap` has one, would keep the loop of `fill` from being split by the two mirrors.
+        let sample = centre(self.side, self.parts, cell).unwrap_or(0);
         mirrored_if(self.after, self.side, sample)
     }
 
     // Writes down where the places from `start` on come from.
+    #[inline]
     pub(crate) fn fill(self, start: u32, steps: &mut [u32])
         requires { start + length steps.old ≤ self.parts }
         ensures { StepsFrom self start steps.new }

@@ -68,6 +68,7 @@ impl<'a, T: Copy, L: RunLayout> Bottom<'a, T, L> {
     }
 
     // The sides that the run takes.
+    #[inline]
     fn shown_sides(&self) -> Sides
         ensures { result ≡ fitting L.layout self.now.sides (length self.now.samples.now) }
     {
@@ -79,6 +80,7 @@ impl<'a, T: Copy, L: RunLayout> Bottom<'a, T, L> {
     }
 
     // The spot of a place that is shown.
+    #[inline]
     fn spot(&self, place: Place) -> Result<usize, Refusal>
         ensures { result ≡ kept_at L.layout self.now.sides (length self.now.samples.now) place }
     {
@@ -89,6 +91,7 @@ impl<'a, T: Copy, L: RunLayout> Bottom<'a, T, L> {
     }
 
     // What the trait's call reads.
+    #[inline]
     fn read_sample(&self, place: Place) -> Result<T, Refusal>
         ensures { result ≡ reading (bottom_shown L.layout self.now) place }
     {
@@ -97,6 +100,7 @@ impl<'a, T: Copy, L: RunLayout> Bottom<'a, T, L> {
     }
 
     // What the trait's call puts.
+    #[inline]
     fn put_sample(&mut self, place: Place, sample: T) -> Result<(), Refusal>
         ensures answer { result ≡ putting (bottom_shown L.layout self.old) place }
         ensures after { bottom_shown L.layout self.new ≡
@@ -138,18 +142,22 @@ impl<'a, T: Copy, L: RunLayout> Store for Bottom<'a, T, L> {
 
     ghost keeps = { bottom_keeps L.layout };
 
+    #[inline]
     fn width(&self) -> u32 {
         self.shown_sides().width
     }
 
+    #[inline]
     fn height(&self) -> u32 {
         self.shown_sides().height
     }
 
+    #[inline]
     fn read(&self, place: Place) -> Result<T, Refusal> {
         self.read_sample(place)
     }
 
+    #[inline]
     fn put(&mut self, place: Place, sample: T) -> Result<(), Refusal> {
         self.put_sample(place, sample)
     }

@@ -32,6 +32,7 @@ impl<S: Store, V: LayerView> Layer<S, V> {
     }
 
     // The sides that the view shows.
+    #[inline]
     fn shown_sides(&self) -> Sides
         ensures { result ≡ (layer_shown V.view S.Store.shown self.now).sides }
     {
@@ -39,6 +40,7 @@ impl<S: Store, V: LayerView> Layer<S, V> {
     }
 
     // The place below that this place shows.
+    #[inline]
     fn spot(&self, place: Place) -> Result<Place, Refusal>
         ensures { result ≡ seen (V.view self.now.view) (S.Store.shown self.now.below).sides place }
     {
@@ -46,6 +48,7 @@ impl<S: Store, V: LayerView> Layer<S, V> {
     }
 
     // What the trait's call puts.
+    #[inline]
     fn put_sample(&mut self, place: Place, sample: S::Sample) -> Result<(), Refusal>
         ensures answer { result ≡ putting (layer_shown V.view S.Store.shown self.old) place }
         ensures after { layer_shown V.view S.Store.shown self.new ≡
@@ -103,19 +106,23 @@ impl<S: Store, V: LayerView> Store for Layer<S, V> {
 
     ghost keeps = { layer_keeps V.view S.Store.shown S.Store.kept S.Store.keeps };
 
+    #[inline]
     fn width(&self) -> u32 {
         self.shown_sides().width
     }
 
+    #[inline]
     fn height(&self) -> u32 {
         self.shown_sides().height
     }
 
+    #[inline]
     fn read(&self, place: Place) -> Result<S::Sample, Refusal> {
         let spot = self.spot(place)?;
         self.below.read(spot)
     }
 
+    #[inline]
     fn put(&mut self, place: Place, sample: S::Sample) -> Result<(), Refusal> {
         self.put_sample(place, sample)
     }

@@ -26,15 +26,18 @@ impl RunLayout for RowAfterRow {
 
     ghost in_pieces = { rows_in_pieces };
 
+    #[inline]
     fn spot(width: u32, place: Place) -> usize {
         place.y as usize * width as usize + place.x as usize
     }
 
+    #[inline]
     fn takes(sides: Sides, length: usize) -> bool {
         are_short(sides) && sides.height as usize * sides.width as usize <= length
     }
 
     // A line stands side by side to its end.
+    #[inline]
     fn piece(_: Place) -> usize {
         usize::MAX
     }

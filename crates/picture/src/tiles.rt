@@ -32,16 +32,19 @@ impl RunLayout for BlockAfterBlock {
 
     ghost in_pieces = { tiles_in_pieces };
 
+    #[inline]
     fn spot(width: u32, place: Place) -> usize {
         let block = (place.y / 8) as usize * block_count(width) + (place.x / 8) as usize;
         block * 64 + (place.y % 8 * 8 + place.x % 8) as usize
     }
 
+    #[inline]
     fn takes(sides: Sides, length: usize) -> bool {
         are_short(sides) && block_count(sides.height) * block_count(sides.width) * 64 <= length
     }
 
     // A line stands side by side to the end of its block.
+    #[inline]
     fn piece(place: Place) -> usize {
         8 - place.x as usize % 8
     }

@@ -27,15 +27,18 @@ impl LayerView for Turn {
 
     ghost shifts = { turn_shifts };
 
+    #[inline]
     fn sides_shown(self, below: Sides) -> Sides {
         self.field(below)
     }
 
+    #[inline]
     fn place_below(self, below: Sides, place: Place) -> Result<Place, Refusal> {
         self.backwards(below, place)
     }
 
     // A turned line may be a column, or run backwards.
+    #[inline]
     fn shift(self) -> Option<Place> {
         None
     }

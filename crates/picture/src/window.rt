@@ -28,6 +28,7 @@ impl LayerView for Frame {
 
     ghost shifts = { window_shifts };
 
+    #[inline]
     fn sides_shown(self, below: Sides) -> Sides {
         Sides {
             width: self.width.min(below.width.saturating_sub(self.left)),
@@ -35,6 +36,7 @@ impl LayerView for Frame {
         }
     }
 
+    #[inline]
     fn place_below(self, below: Sides, place: Place) -> Result<Place, Refusal> {
         if !self.sides_shown(below).contain(place) {
             return Err(Refusal::PlaceOutside);
@@ -42,6 +44,7 @@ impl LayerView for Frame {
         Ok(moved(self.corner(), place))
     }
 
+    #[inline]
     fn shift(self) -> Option<Place> {
         Some(self.corner())
     }

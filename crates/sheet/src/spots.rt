@@ -64,18 +64,23 @@ impl Draft {
         }
     }
 
-    // All boxes of spots that the draft cannot take: the walls, and one box against each row.
-    pub(crate) fn blocked(&self, packed: PackedSides, rows: &[Row]) -> ArrayVec<Bounds, MOST>
-        requires { length rows.now ≤ 255 }
-        ensures { result.items ≡ blocked packed rows.now self.now }
+    // Puts all boxes of spots that the draft cannot take into an empty list: the walls, and one box against each row. The list is
+    // lent, since handing back one of this size copies it, which takes longer than a search among few rows.
+    pub(crate) fn block(
+        &self,
+        packed: PackedSides,
+        rows: &[Row],
+        boxes: &mut ArrayVec<Bounds, MOST>,
+    )
+        requires few { length rows.now ≤ 255 }
+        requires empty { boxes.old.items ≡ [] }
+        ensures { boxes.new.items ≡ blocked packed rows.now self.now }
     {
-        let mut boxes = ArrayVec::new();
         for wall in self.walls(packed) {
             boxes.push(wall);
         }
         for row in rows {
             boxes.push(self.against(row));
         }
-        boxes
     }
 }

@@ -10,6 +10,7 @@ use crate::claims::{claim, claim_inside, meets_some};
 use crate::gap::close_gap;
 use crate::row::{Draft, PackedSides, Row, SheetSides};
 use crate::table::Table;
+use arrayvec::ArrayVec;
 use geometry::{Body, Bounds, ProjectedRectangle, Sides, Spot, Turn, first_free};
 use refusal::Refusal;
 
@@ -138,7 +139,8 @@ impl Sheet {
         ensures small { SmallSpot result }
     {
         let packed = self.table.sides.packed;
-        let taken = draft.blocked(packed, self.rows());
+        let mut taken = ArrayVec::new();
+        draft.block(packed, self.rows(), &mut taken);
         self.search_finds(draft, &taken);
         first_free(&taken, packed.height as u32, packed.width as u32)
     }

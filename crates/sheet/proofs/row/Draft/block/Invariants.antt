@@ -2,7 +2,7 @@ use Rattle.std.proofs.Common.{◌≡◌, ◌+◌, ◌++◌, length, take}
 use Rattle.std.specs.List.{flat_map}
 use Rattle.sheet.specs.Blocked.{walls, against}
 use Rattle.sheet.specs.Claims.{reaches}
-use Rattle.sheet.proofs.row.Draft.blocked.Given as goal
+use Rattle.sheet.proofs.row.Draft.block.Given as goal
 
 abbrev pub invariant-loop-wall : goal.invariant-loop-wall
 invariant-loop-wall l = l.boxes.items ≡ take l.wall-index l.wall-items
