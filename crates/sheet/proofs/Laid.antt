@@ -73,3 +73,14 @@ module _ (t : Table) (r : Row) (whole : length t.rows ≡ 255) (few : t.len ≤ 
 
   pub laid_sound : Ok tt ≡ verdict (room_checks (held t) r) → sound (held t) ≡ true → sound (held (laid_table t r)) ≡ true
   laid_sound room h = ap sound laid_held ∙ push_sound (held t) r shape room h
+
+-- where two lists of checks pass, each does
+pub verdict_first : (xs ys : List Check) → Ok tt ≡ verdict (xs ++ ys) → Ok tt ≡ verdict xs
+verdict_first [] ys e = refl
+verdict_first (x ∷ xs) ys e =
+    let s = ok_step x.fails x.with (verdict (xs ++ ys)) tt e in
+    verdict_first xs ys s.1 ∙ sym (cond-false x.fails (Err x.with) (verdict xs) s.0)
+
+pub verdict_rest : (xs ys : List Check) → Ok tt ≡ verdict (xs ++ ys) → Ok tt ≡ verdict ys
+verdict_rest [] ys e = e
+verdict_rest (x ∷ xs) ys e = verdict_rest xs ys (ok_step x.fails x.with (verdict (xs ++ ys)) tt e).1

@@ -48,6 +48,9 @@ crossed a b h =
       s = grind (arith, nat_tests);
     }
 
+overlap_from : (a b : Bounds) → Crossed a b → overlap a b ≡ true
+overlap_from a b c = grind (arith, nat_tests)
+
 -- a place that both boxes have
 has_overlap : (a b : Bounds) (y x : ℕ) → has a y x ≡ true → has b y x ≡ true → overlap a b ≡ true
 has_overlap a b y x ha hb = grind (arith, nat_tests)
